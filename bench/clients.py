@@ -1,4 +1,4 @@
-"""Servers that are measured, and the clients that measure them (load.rs)."""
+"""The servers under measurement, and their clients (load.rs)."""
 import os
 import shutil
 import socket
@@ -24,9 +24,8 @@ OPENING = [b"connect wizard potrzebie", b"@teleport me=#0", b"@dig Other=north,s
 
 
 class Played(NamedTuple):
-    """How lines were answered: how many, in how many seconds, by how many of processor time, how many lines were read,
-    and how many of them were notices of talk; and the milliseconds that half and 99 of 100 of replies and notices stay
-    below."""
+    """The result of a play: the number of answers, the elapsed seconds and those of processor time, the lines read and
+    the notices of talk among them. Then come the 50th and 99th percentile of replies and notices, in milliseconds."""
 
     answers: float
     seconds: float
@@ -38,37 +37,37 @@ class Played(NamedTuple):
 
     @property
     def rate(self):
-        """Answers a second."""
+        """Returns answers a second."""
         return self.answers / self.seconds
 
     @property
     def cost(self):
-        """Microseconds of processor time an answer."""
+        """Returns microseconds of processor time an answer."""
         return self.took / self.answers * 1e6
 
 
 def processor_time(pid):
-    """The seconds of processor time that a process has taken."""
+    """Returns the seconds of processor time that a process has used."""
     with open(f"/proc/{pid}/stat") as file:
         fields = file.read().rpartition(")")[2].split()
     return (int(fields[11]) + int(fields[12])) / os.sysconf("SC_CLK_TCK")
 
 
 def memory(pid, name="VmRSS"):
-    """What a process holds, in megabytes."""
+    """Returns the memory of a process, in megabytes."""
     with open(f"/proc/{pid}/status") as file:
         return next(int(line.split()[1]) for line in file if line.startswith(name)) / 1000
 
 
 def built_load(folder):
-    """The program of the clients, built in the folder."""
+    """Builds the program of the clients in the folder, and returns its path."""
     path = f"{folder}/load"
     subprocess.run(["rustc", "--edition", "2021", "-O", "-o", path, f"{HERE}/load.rs"], check=True)
     return path
 
 
 def played(name, load, pid, port, clients, lines):
-    """Has so many clients send so many lines each."""
+    """Lets this many clients send this many lines each."""
     before = processor_time(pid)
     words = [load, str(port), str(clients), str(lines), name]
     said = subprocess.run(words, stdout=subprocess.PIPE, check=True, text=True).stdout
@@ -78,7 +77,7 @@ def played(name, load, pid, port, clients, lines):
 
 
 def build_rooms(server):
-    """Has a server's world have the two rooms in which clients play."""
+    """Builds the two rooms in which clients play."""
     builder = Client(server.port)
     for line in DIGS:
         builder.send(line)
@@ -87,14 +86,14 @@ def build_rooms(server):
 
 
 def played_here(load, clients, lines, words, program=SERVE, environment=None):
-    """The same with this server, started with the words, in a world of two rooms."""
+    """Plays with this server, started with the words, in a world of two rooms."""
     with Server(program, words, environment) as server:
         build_rooms(server)
         return played("seamountcup", load, server.process.pid, server.port, clients, lines)
 
 
 def played_on_web(load, clients, lines):
-    """The same by the door on the web."""
+    """Plays so on the web."""
     with WebServer() as server:
         build_rooms(server)
         return played("web", load, server.process.pid, server.web_port, clients, lines)
@@ -110,7 +109,7 @@ def free_port():
 
 
 def played_by_mux(folder, load, clients, lines):
-    """The same with tinymux, with a new database in a folder of its own."""
+    """Plays so with tinymux, with a new database in a folder of its own."""
     game, port = f"{folder}/game", free_port()
     shutil.copytree(GAME, game)
     shutil.copytree(BINARIES, f"{game}/bin")

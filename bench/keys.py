@@ -1,12 +1,12 @@
 #!/usr/bin/env python3
-"""Writes the input of a script in which builders lock exits with keys that are as dear as keys can be.
+"""Writes the input of a script in which builders lock exits with the most expensive keys.
 
 keys.py EXITS ROUTES [WALKS]
 
-Three sets of 16 things: the key of each in the first asks all of the second, and the key of each in the
-second asks all of the third. Then EXITS exits, each to a room of its own and each locked with a key that
-asks all of the first set, so that a key read anew leads to 4,096 others. At last ROUTES routes through
-such an exit, and WALKS (0) new players, each of whom walks through one. The last line is `quit`.
+There are three sets of 16 things. The key of each in the first asks about all of the second, and the key of each in the
+second asks about all of the third. Then come EXITS exits, each to a room of its own and each locked with a key that
+asks about all of the first set, so evaluating one key leads to 4,096 others. At last come ROUTES routes through such an
+exit, and WALKS (0) new players, each of whom walks through one. The last line is `quit`.
 """
 
 import sys
@@ -18,7 +18,7 @@ sets = [range(first, first + 16) for first in (2, 18, 34)]
 
 
 def asking(things):
-    """A key that asks all of these."""
+    """Returns a key that asks about all of these."""
     return " && ".join(f"?#{thing}" for thing in things)
 
 

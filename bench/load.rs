@@ -1,9 +1,8 @@
-//! load PORT CLIENTS LINES seamountcup|web|mux: as many clients in a closed loop, each of which sends its next line
-//! when the last one was answered, LINES in all. `web` is seamountcup by its door on the web. One thread works them all
-//! by `poll`, so that it takes little of the machine that it measures. It prints three lines: how many lines were
-//! answered, in how many seconds, how many lines were read and how many of them told what another said; then the
-//! milliseconds that half of the replies and 99 of 100 stay below; and the same of the notices, from when the line was
-//! sent.
+//! load PORT CLIENTS LINES seamountcup|web|mux: runs this many clients in a closed loop. Each sends its next line after
+//! the last answer, LINES in all. `web` is seamountcup by its web listener. One thread serves all clients by `poll`, so
+//! that it uses little of the measured machine. It prints three lines. The first has the number of answers, the
+//! seconds, the lines read, and the notices of talk among them. The second has the 50th and 99th percentile of the
+//! replies in milliseconds, and the third those of the notices, from the time when the line was sent.
 
 use std::io::{self, BufRead, Read, Write};
 use std::net::TcpStream;
@@ -27,16 +26,16 @@ const TCP_QUICKACK: i32 = 12;
 
 const READABLE: i16 = 1;
 const PATIENCE: i32 = 20_000;
-/// So many bytes there is room for at once; more where they are all taken.
+/// The room for bytes at once; more if it is used up.
 const ROOM: usize = 65_536;
-/// What a client sends over and over; `say` gets a text of its own each time.
+/// The lines that a client sends over and over; `say` gets a text of its own each time.
 const ROUND: [&str; 8] = ["look", "say", "north", "inventory", "@version", "say", "south", "look"];
 const SAID: &str = "number ";
 /// A key of a web socket, and one with which frames are masked.
 const KEY: &str = "dGhlIHNhbXBsZSBub25jZQ==";
 const MASK: [u8; 4] = [0x37, 0xfa, 0x21, 0x3d];
 
-/// Which server is spoken to, and how.
+/// The kind of server, and how clients talk to it.
 #[derive(Clone, Copy, PartialEq)]
 enum Dialect {
     Seamountcup,
@@ -45,7 +44,7 @@ enum Dialect {
 }
 
 impl Dialect {
-    /// What brings a client into the world.
+    /// The text that connects a client's player.
     fn arrival(self, at: usize) -> String {
         match self {
             Dialect::Seamountcup | Dialect::Web => format!("connect Load{at}"),
@@ -53,7 +52,7 @@ impl Dialect {
         }
     }
 
-    /// Whether a line is the end of what is answered to a line that was sent.
+    /// Returns whether a line is the end of the answer to a sent line.
     fn is_answer(self, line: &[u8]) -> bool {
         match self {
             Dialect::Seamountcup | Dialect::Web => line.starts_with(b"[") || line == b"(history full)",
@@ -61,7 +60,7 @@ impl Dialect {
         }
     }
 
-    /// A line of the round.
+    /// Returns a line of the round.
     fn spelled(self, line: &str, number: usize) -> String {
         match (line, self) {
             ("say", _) => format!("say {SAID}{number}"),
@@ -70,7 +69,7 @@ impl Dialect {
         }
     }
 
-    /// The bytes by which a line is typed.
+    /// Returns the bytes that type a line.
     fn typed(self, line: &str) -> Vec<u8> {
         match self {
             Dialect::Web => framed(line.as_bytes()),
@@ -79,7 +78,7 @@ impl Dialect {
     }
 }
 
-/// A text as one frame of a web socket, with a mask (RFC 6455, section 5.2). It has fewer than 126 bytes.
+/// Returns a text as one frame of a web socket, with a mask (RFC 6455, section 5.2). It has fewer than 126 bytes.
 fn framed(text: &[u8]) -> Vec<u8> {
     let mut frame = vec![0x81, 0x80 | text.len() as u8];
     frame.extend(MASK);
@@ -87,7 +86,7 @@ fn framed(text: &[u8]) -> Vec<u8> {
     frame
 }
 
-/// Where the payload of the first frame of a server begins and ends, if it is whole.
+/// Returns where the payload of the first frame of a server begins and ends, if it is whole.
 fn payload(frames: &[u8]) -> Option<(usize, usize)> {
     let number = |bytes: &[u8]| bytes.iter().fold(0, |number, byte| number << 8 | *byte as usize);
     let (from, length) = match *frames.get(1)? {
@@ -98,8 +97,8 @@ fn payload(frames: &[u8]) -> Option<(usize, usize)> {
     (from + length <= frames.len()).then_some((from, from + length))
 }
 
-/// What has come and was not taken yet: a text of so many bytes, and behind it, on the web, the beginning of a frame.
-/// The room for it is kept, and no byte of it is cleared or copied without need: the clients are to take little.
+/// Unprocessed input: a text of some length, and behind it, on the web, a prefix of a frame. It keeps its memory, and
+/// clears and copies no byte without need, because the clients should use little time.
 struct Inbox {
     room: Vec<u8>,
     text: usize,
@@ -111,7 +110,7 @@ impl Inbox {
         Inbox { room: vec![0; ROOM], text: 0, filled: 0 }
     }
 
-    /// Reads what has come; waits for some bytes.
+    /// Reads more; waits for some bytes.
     fn read(&mut self, stream: &mut TcpStream, dialect: Dialect) -> io::Result<()> {
         if self.filled == self.room.len() {
             self.room.resize(self.filled + ROOM, 0);
@@ -128,7 +127,7 @@ impl Inbox {
         Ok(())
     }
 
-    /// Has the payload of each whole frame be text.
+    /// Makes the payload of each whole frame text.
     fn unwrap_frames(&mut self) {
         let mut at = self.text;
         while let Some((from, to)) = payload(&self.room[at..self.filled]) {
@@ -140,7 +139,7 @@ impl Inbox {
         self.filled -= at - self.text;
     }
 
-    /// Has each whole line of the text looked at where it stands, and takes them away.
+    /// Passes each complete line of the text to `look`, in place, and removes them.
     fn take_lines(&mut self, look: impl FnMut(&[u8])) {
         let mut lines = Lines { rest: &self.room[..self.text] };
         lines.by_ref().for_each(look);
@@ -151,7 +150,7 @@ impl Inbox {
     }
 }
 
-/// The lines of a text without their ends. What has no end yet is left over.
+/// The lines of a text without their ends. An incomplete line is left over.
 struct Lines<'a> {
     rest: &'a [u8],
 }
@@ -168,7 +167,7 @@ impl<'a> Iterator for Lines<'a> {
     }
 }
 
-/// What was measured, and when each text was sent that is said.
+/// The measurements, and when each spoken text was sent.
 #[derive(Default)]
 struct Times {
     replies: Vec<Duration>,
@@ -221,20 +220,20 @@ impl Client {
         self.stream.write_all(&self.dialect.typed(line))
     }
 
-    /// Has what comes acknowledged at once: a server may wait for that before it sends more.
+    /// Acknowledges input at once: a server may wait for that before it sends more.
     fn hurry(&self) {
-        // SAFETY: the value is read during the call, and has the length that is given.
+        // SAFETY: the value is read during the call, and has the given length.
         unsafe { setsockopt(self.stream.as_raw_fd(), IPPROTO_TCP, TCP_QUICKACK, &1, 4) };
     }
 
-    /// Reads what has come; waits for some bytes.
+    /// Reads more; waits for some bytes.
     fn read(&mut self) -> io::Result<()> {
         self.inbox.read(&mut self.stream, self.dialect)?;
         self.hurry();
         Ok(())
     }
 
-    /// Reads until such a line has come, before anything is measured.
+    /// Reads until such a line comes, before anything is measured.
     fn read_until(&mut self, is_last: impl Fn(&[u8]) -> bool) -> io::Result<()> {
         let mut has_come = false;
         while !has_come {
@@ -244,7 +243,7 @@ impl Client {
         Ok(())
     }
 
-    /// Takes what has come unasked.
+    /// Reads input that answers nothing.
     fn drain(&mut self) -> io::Result<()> {
         self.stream.set_nonblocking(true)?;
         while self.read().is_ok() {
@@ -253,7 +252,7 @@ impl Client {
         self.stream.set_nonblocking(false)
     }
 
-    /// Sends a line and waits until it is answered, before anything is measured.
+    /// Sends a line and waits for its answer, before anything is measured.
     fn ask(&mut self, line: &str) -> io::Result<()> {
         let dialect = self.dialect;
         self.send(line)?;
@@ -278,7 +277,7 @@ impl Client {
         Ok(())
     }
 
-    /// Takes what has come.
+    /// Processes input.
     fn take(&mut self, times: &mut Times) -> io::Result<()> {
         self.read()?;
         let (now, dialect) = (Instant::now(), self.dialect);
@@ -299,7 +298,7 @@ impl Client {
     }
 }
 
-/// The number of what another said, where the line tells that: it is behind `SAID`, at the line's end but for a quote.
+/// Returns the number of the spoken text in a notice: it is behind `SAID`, at the line's end except for a quote.
 fn told(line: &[u8]) -> Option<usize> {
     let line = line.strip_suffix(b"\"").unwrap_or(line);
     let digits = line.iter().rev().take_while(|byte| byte.is_ascii_digit()).count();
@@ -310,7 +309,7 @@ fn told(line: &[u8]) -> Option<usize> {
     std::str::from_utf8(number).ok()?.parse().ok()
 }
 
-/// The time that so many of a thousand stay below, in milliseconds.
+/// Returns the time below which this many of a thousand stay, in milliseconds.
 fn within(times: &mut [Duration], thousandths: usize) -> f64 {
     times.sort();
     times.get(times.len() * thousandths / 1000).map_or(0.0, |it| it.as_secs_f64() * 1e3)
@@ -325,7 +324,7 @@ fn work(clients: &mut [Client], times: &mut Times) -> io::Result<()> {
         .map(|it| PollFd { file: it.stream.as_raw_fd(), events: READABLE, found: 0 })
         .collect();
     while clients.iter().any(|it| it.is_waiting) {
-        // SAFETY: `files` is a list of so many entries, in the layout of C.
+        // SAFETY: `files` is a list of that many entries, in the layout of C.
         if unsafe { poll(files.as_mut_ptr(), files.len() as u64, PATIENCE) } <= 0 {
             return Err(io::ErrorKind::TimedOut.into());
         }

@@ -1,10 +1,10 @@
 #!/usr/bin/env python3
-"""Writes the input of a script in which so many players come by name, and then sit down again and again by turns.
+"""Writes the input of a script in which players connect by name, and then change places by turns.
 
 names.py PLAYERS TURNS
 
-Each of PLAYERS players is new when he comes; then each of TURNS lines sits down the 977th behind the last. What a turn
-costs is what a script takes with turns less what one takes without. The last line is `quit`.
+Each of PLAYERS players is new at first. Then each of TURNS lines becomes the player 977 behind the last. The cost of a
+turn is that of a script with turns less that of one without. The last line is `quit`.
 """
 import sys
 

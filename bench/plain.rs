@@ -1,9 +1,8 @@
-//! The plain program that the guide's speed is compared with: unproved Rust with a binary heap.
+//! The plain program for comparing the guide's speed: unproved Rust with a binary heap.
 //!
-//! `plain HISTORY SCRIPT` reads a history text, builds its world, and answers the lines
-//! `route to #N` of the script for the Wizard, #1. It prints each answer as `mud_serve` does (without
-//! the version), and on standard error the seconds that the answers took. It knows the few
-//! changes and key forms that the worlds of `worlds.py` have.
+//! `plain HISTORY SCRIPT` reads a history text, builds its world, and answers the lines `route to #N` of the script for
+//! the Wizard, #1. It prints each answer as `mud_serve` does (without the version), and on standard error the seconds
+//! that the answers took. It knows the few changes and key forms that the worlds of `worlds.py` have.
 
 #[path = "plain/keys.rs"]
 mod keys;

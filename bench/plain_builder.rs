@@ -1,9 +1,9 @@
-//! The plain program that builders' lines are compared with: unproved Rust with a vector of objects.
+//! The plain program for comparing builders' lines: unproved Rust with a vector of objects.
 //!
 //! `plain_builder < SCRIPT` answers the Wizard's lines `@create NAME`, `@dig NAME to "NAME"` and `@lock #N with KEY`,
-//! in which all objects have a `#`, as `mud_serve script` does, byte for byte. It keeps what they change (objects, what
-//! each holds, which exits leave it, whose keys ask it) and the list of changes, and tests names, keys and how deep a
-//! key nests as `docs/KEYS.md` and `docs/WORLD.md` say, by going down through what a key asks. It knows no other line.
+//! with `#` in front of all objects, as `mud_serve script` does, byte for byte. It keeps their effects (objects,
+//! contents, exits that leave, keys that ask) and the list of changes. It checks names, keys and the nesting of a key
+//! as `docs/KEYS.md` and `docs/WORLD.md` say, by following the questions of a key. It knows no other line.
 
 #[path = "plain/keys.rs"]
 mod keys;
@@ -78,21 +78,22 @@ impl World {
         Ok(format!("dug room #{room}, exit #{exit}"))
     }
 
-    /// Whether no more than so many questions lead on from the key, one after the other.
+    /// Returns whether at most `left` questions lead on from the key, one after the other.
     fn nests(&self, key: &Key, left: usize) -> bool {
         key.all(&mut |object, is_asked| {
             !is_asked || left > 0 && self.objects[object].key.as_ref().is_none_or(|key| self.nests(key, left - 1))
         })
     }
 
-    /// Whether the keys of the object and of those that ask it, up to so many questions away, nest at most 3.
+    /// Returns whether the keys of the object and of those that ask about it, up to `away` questions away, nest at most
+    /// 3.
     fn all_nest(&self, object: usize, away: usize) -> bool {
         let own = &self.objects[object].key;
         own.as_ref().is_none_or(|key| self.nests(key, 3))
             && (away == 0 || self.objects[object].askers.iter().all(|asker| self.all_nest(*asker, away - 1)))
     }
 
-    /// What the key of the object asks.
+    /// Returns the objects that the key of the object asks about.
     fn asked(&self, object: usize) -> Vec<usize> {
         let mut asked = Vec::new();
         if let Some(key) = &self.objects[object].key {
@@ -148,7 +149,7 @@ impl World {
         Some(format!("[{}] {}\r\n", self.history.len(), said.unwrap_or_else(str::to_owned)))
     }
 
-    /// A sum over all that is kept, so that no compiler leaves anything out.
+    /// Returns a sum over all data, so that no compiler leaves anything out.
     fn sum(&self) -> usize {
         let of_object = |it: &Object| {
             let ends = it.passage.map_or(0, |(from, to)| from + to) + it.place.unwrap_or(0);

@@ -1,10 +1,10 @@
-//! The plain program that lines are compared with: unproved Rust with a vector of objects.
+//! The plain program for comparing lines: unproved Rust with a vector of objects.
 //!
 //! `plain_lines < SCRIPT` answers lines of the Wizard as `mud_serve script` does, byte for byte. It reads them as
-//! docs/TELNET.md says, takes them apart and decides them as docs/COMMANDS.md and docs/WORLD.md say, and keeps the
-//! list of changes. It knows talk, `look`, walks, `drop`, `@create`, `@dig`, `@cost`, `@lock`, `route`, `@version` and
-//! `@history` of one player, keys of numbers that don't ask, and no proofs of its routes. A line of another verb of the
-//! table ends it.
+//! docs/TELNET.md says, parses and decides them as docs/COMMANDS.md and docs/WORLD.md say, and keeps the list of
+//! changes. It knows talk, `look`, walks, `drop`, `@create`, `@dig`, `@cost`, `@lock`, `route`, `@version` and
+//! `@history` of one player, keys of numbers without questions, and no proofs of its routes. A line with another verb
+//! of the table ends it.
 //!
 //! `plain_lines split < SCRIPT` only cuts each line at its spaces, and answers as if its text were too long to be said,
 //! or no command.
@@ -40,7 +40,7 @@ struct Session<W: Write> {
 }
 
 impl<W: Write> Session<W> {
-    /// Answers a line; nothing is said of a blank one.
+    /// Answers a line; a blank one has no answer.
     fn answer(&mut self, typed: &str) -> io::Result<()> {
         let typed = spelled_out(typed);
         let Some(line) = Line::read(&typed) else { return Ok(()) };

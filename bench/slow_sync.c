@@ -1,5 +1,4 @@
-// Has each fdatasync of the program that it is preloaded into take longer, by so many milliseconds as SYNC_MILLISECONDS
-// says.
+// Delays each fdatasync of the program that it is preloaded into by SYNC_MILLISECONDS.
 
 #define _GNU_SOURCE
 #include <dlfcn.h>

@@ -1,10 +1,10 @@
 #!/usr/bin/env python3
-"""workspace.py: proves the programs of bench/crates over the libraries as they stand. The status is 0 where all are
-proved. `bench/hall/run` and `bench/workers/run` build theirs by it.
+"""workspace.py: proves the programs of bench/crates over the present libraries. The status is 0 if all are proved.
+`bench/hall/run` and `bench/workers/run` build theirs by it.
 
-`rt ci` refuses code that stands outside the crates of the repository, so these files end in .txt. They are laid out in
-a temporary folder under their own names, beside the libraries: a repository of its own, which `rt ci` proves. It takes
-what an earlier run, or the gate, proved of the libraries on this machine.
+`rt ci` refuses code outside of the crates of the repository, so these files end in .txt. The script copies them to a
+temporary folder under their own names, beside the libraries: a repository of its own, which `rt ci` proves. `rt ci`
+reuses earlier proofs of the libraries on this machine, also those of the gate.
 """
 import contextlib
 import os
@@ -16,12 +16,12 @@ import tempfile
 BENCH = os.path.dirname(os.path.realpath(__file__))
 TOP = os.path.dirname(BENCH)
 OF_LIBRARY = ("src", "specs", "proofs")
-# What the programs end with where they are given no words, as by rt.
+# The last output of the programs if they get no arguments, as from rt.
 OF_NO_WORDS = "2\n"
 
 
 def lines_of(path):
-    """The lines of crates: each name to what it stands on."""
+    """Returns the lines of crates: each name with its dependencies."""
     with open(path, encoding="ascii") as file:
         lines = [line.partition("#")[0].partition(":") for line in file]
     return {name.strip(): stands_on.split() for name, _, stands_on in lines if name.strip()}
@@ -31,7 +31,7 @@ PROGRAMS = lines_of(f"{BENCH}/crates/lines.txt")
 
 
 def below(libraries, names):
-    """The libraries of the repository that these crates stand on, with all below them."""
+    """Returns the libraries of the repository on which these crates depend, with all below them."""
     found = set()
     left = [*names]
     while left:
@@ -55,7 +55,7 @@ def lay_out_program(name, folder):
 
 @contextlib.contextmanager
 def laid_out(*names):
-    """A folder with these programs, and the libraries that they stand on, as a repository."""
+    """Makes a folder with these programs and their libraries, as a repository, and yields it."""
     libraries = lines_of(f"{TOP}/crates.txt")
     crates = {it: libraries[it] for it in below(libraries, [low for name in names for low in PROGRAMS[name]])}
     with tempfile.TemporaryDirectory() as folder:
@@ -75,13 +75,13 @@ def program(name):
 
 
 def prove(folder):
-    """The status of the proof of what is laid out."""
+    """Returns the status of the proof of the copy."""
     return subprocess.run(["rt", "ci"], cwd=folder, stdin=subprocess.DEVNULL, stdout=sys.stderr, check=False).returncode
 
 
 @contextlib.contextmanager
 def built(name):
-    """The path of a program, which is proved and built."""
+    """Returns the path of a proved and built program."""
     with laid_out(name) as folder:
         if prove(folder):
             sys.exit(f"{name} is not proved, or not built")

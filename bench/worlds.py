@@ -3,10 +3,9 @@
 
 worlds.py SHAPE ROUTES
 
-SHAPE is `grid` (about 4,000 rooms in a grid, each entered by one exit, with the exits that are left
-over as short cuts) or `mesh` (about 2,000 rooms with three exits each). Both fill the world: 8,192
-objects. Costs vary from 0 to 10,000, and some exits and rooms have locks. With ROUTES 0 only the
-world is built. The last line is `quit`.
+SHAPE is `grid` or `mesh`. The grid has about 4,000 rooms, each with one exit into it, and the remaining exits as short
+cuts. The mesh has about 2,000 rooms with three exits each. Both fill the world: 8,192 objects. Costs vary from 0 to
+10,000, and some exits and rooms have locks. With ROUTES 0 the script only builds the world. The last line is `quit`.
 """
 
 import sys
@@ -16,7 +15,7 @@ state = 20261122
 
 
 def dice(n):
-    """A number below n, the same in every run."""
+    """Returns a number below n, the same in every run."""
     global state
     state = (state * 6364136223846793005 + 1442695040888963407) % 2**64
     return (state >> 33) % n
@@ -94,7 +93,7 @@ if shape == "grid":
         here = spine
     limit = 8185
 else:
-    # a chain of rooms, each with two further exits to rooms that are there already
+    # a chain of rooms, each with two further exits to existing rooms
     while objects + 4 < 8192 - 16:
         if here != 0 and len(rooms) > 4:
             dig_old(rooms[dice(len(rooms))])

@@ -1,4 +1,4 @@
-"""The command lines of the programs, as their own `--help` tells them."""
+"""The command lines of the programs, read from their `--help`."""
 import re
 import subprocess
 from dataclasses import dataclass
@@ -6,20 +6,20 @@ from dataclasses import dataclass
 SECONDS = 10
 SECTION = re.compile(r"^(\w+):\n((?:  .*\n)+)", re.MULTILINE)
 USAGE = re.compile(r"^Usage: (.*)$", re.MULTILINE)
-# What stands at the left of a row: `-h, --help` or `--port <N>`.
+# The left side of a row: `-h, --help` or `--port <N>`.
 OPTION = re.compile(r"(?:(-\w), )?(--[\w-]+)(?: (<\w+>))?")
 DEFAULT = re.compile(r" *\[default: (.*)\]$")
-# What clap adds to a program with forms.
+# The form that clap adds to a program with forms.
 HELP = "help"
 
 
 class Unread(Exception):
-    """A text of help has another form than those that are known here."""
+    """A text of help has an unknown form."""
 
 
 @dataclass
 class Option:
-    """An option: its names, what its value is called, what is said of it, and whether it must be there."""
+    """An option: its names, the name of its value, its description, and whether it is required."""
 
     short: str
     long: str
@@ -31,7 +31,7 @@ class Option:
 
 @dataclass
 class File:
-    """A file by its place."""
+    """A file argument by position."""
 
     name: str
     text: str
@@ -40,7 +40,7 @@ class File:
 
 @dataclass
 class Form:
-    """A form of a command line: its words before the options, what it does, and what it takes."""
+    """A form of a command line: its words before the options, its purpose, and its arguments."""
 
     words: list
     about: str
@@ -48,13 +48,13 @@ class Form:
     options: list
 
     def name(self):
-        """`mud_serve listen`."""
+        """Returns the name, such as `mud_serve listen`."""
         return " ".join(self.words)
 
 
 @dataclass
 class Program:
-    """A program: its command line without a form, and its forms, if it takes some."""
+    """A program: its command line without a form, and its forms, if it has any."""
 
     own: Form
     forms: list
@@ -64,18 +64,18 @@ class Program:
 
 
 def help_of(path, words):
-    """What a program prints to these words and `--help`."""
+    """Returns a program's output for these words and `--help`."""
     how = {"capture_output": True, "text": True, "timeout": SECONDS, "check": True, "stdin": subprocess.DEVNULL}
     return subprocess.run([path, *words, "--help"], **how).stdout
 
 
 def rows_of(section):
-    """The rows of a section of help, a line each: what stands at the left, and what is said of it."""
+    """Returns the rows of a section of help, one for each line: the left side, and the description."""
     return [re.split(" {2,}", line.strip(), maxsplit=1) for line in section.splitlines()]
 
 
 def option_of(left, text, usage):
-    """The option of a row."""
+    """Returns the option of a row."""
     found = OPTION.fullmatch(left)
     if not found:
         raise Unread(f"no option: {left}")
@@ -86,7 +86,7 @@ def option_of(left, text, usage):
 
 
 def file_of(left, text):
-    """The file of a row: `<FILE>` must be there, `[FILE]` may."""
+    """Returns the file of a row: `<FILE>` is required, `[FILE]` is optional."""
     found = re.fullmatch(r"<(\w+)>|\[(\w+)\]", left)
     if not found:
         raise Unread(f"no file: {left}")
@@ -94,7 +94,7 @@ def file_of(left, text):
 
 
 def read_form(words, text):
-    """The form of which this is the help, and the names of those below it."""
+    """Returns the form of a text of help, and the names of the forms below it."""
     sections, usage = dict(SECTION.findall(text)), USAGE.search(text)
     if not usage or {*sections} - {"Commands", "Arguments", "Options"}:
         raise Unread(f"{' '.join(words)}: {text}")
@@ -106,6 +106,6 @@ def read_form(words, text):
 
 
 def read_program(name, path):
-    """The command lines of the program of this name that stands at this path."""
+    """Returns the command lines of the program with this name at this path."""
     own, below = read_form([name], help_of(path, []))
     return Program(own, [read_form([name, form], help_of(path, [form]))[0] for form in below])

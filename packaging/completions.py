@@ -1,7 +1,7 @@
-"""Completions for bash and zsh: the forms of a program, its options, and files where it takes a file."""
+"""Completions for bash and zsh: the forms of a program, its options, and files for file arguments."""
 from templates import filled
 
-# What a file is called in the help of a program: the value of an option, or a word by its place.
+# The names of files in the help of a program: the value of an option, or an argument by position.
 FILES = ("FILE", "HISTORY", "PROOF")
 
 BASH = """# Completions of %NAME for bash, made from its --help.
@@ -34,12 +34,12 @@ ZSH_OF_FORMS = """case $state:$words[1] in
 
 
 def names_of(options):
-    """All names of options: `--help`, `-h`."""
+    """Returns all names of options: `--help`, `-h`."""
     return [name for option in options for name in (option.long, option.short) if name]
 
 
 def cases_of(program):
-    """The forms of a program by the word that chooses them; an empty one for what stands before any."""
+    """Returns the forms of a program by the word that chooses them; an empty one for the words before any."""
     return {"": program.own, **{form.words[1]: form for form in program.forms}}
 
 
@@ -47,7 +47,7 @@ def cases_of(program):
 
 
 def bash_words(word, form, program):
-    """The branch of a case with what may stand behind a form."""
+    """Returns the branch of a case with the words that may follow a form."""
     forms = [] if word else [one.words[1] for one in program.forms]
     words = " ".join([*forms, *names_of(form.options)])
     files = " files=yes" if form.files else ""
@@ -56,7 +56,7 @@ def bash_words(word, form, program):
 
 
 def bash_values(word, form):
-    """The branches of a case with what may stand behind an option that takes a value: a file, or what nobody knows."""
+    """Returns the branches of a case for the value of an option: a file, or anything."""
     lines = ""
     for is_file, does in ((True, 'words="" files=yes'), (False, "return")):
         named = [option.long for option in form.options if option.value and (option.value in FILES) == is_file]
@@ -66,7 +66,7 @@ def bash_values(word, form):
 
 
 def bash(program):
-    """The completions of a program for bash."""
+    """Returns the completions of a program for bash."""
     cases = cases_of(program)
     words = "".join(bash_words(word, form, program) for word, form in cases.items())
     values = "".join(bash_values(word, form) for word, form in cases.items())
@@ -78,12 +78,12 @@ def bash(program):
 
 
 def quoted(text):
-    """A text as it stands in a specification between single quotes: what would end a part of it is escaped."""
+    """Returns a text for a specification between single quotes: signs that would end a part of it are escaped."""
     return "".join(f"\\{one}" if one in "[]:\\\"" else one for one in text).replace("'", "'\\''")
 
 
 def zsh_option(option):
-    """The specifications of an option, one for each of its names."""
+    """Returns the specifications of an option, one for each of its names."""
     if option.value is None:
         return [f"'{name}[{quoted(option.text)}]'" for name in names_of([option])]
     does = "_files" if option.value in FILES else " "
@@ -91,7 +91,8 @@ def zsh_option(option):
 
 
 def zsh_specs(form, forms=()):
-    """The specifications of what a form takes, a line each; before any form, one of the forms, and then its own."""
+    """Returns the specifications of a form's arguments, a line each; before any form, one of the forms, and then its
+    own."""
     specs = [spec for option in form.options for spec in zsh_option(option)]
     specs += [f"'{at}:{file.name}:_files'" for at, file in enumerate(form.files, 1)]
     if forms:
@@ -101,13 +102,13 @@ def zsh_specs(form, forms=()):
 
 
 def zsh_branch(form):
-    """The branch of a case with what a form takes."""
+    """Returns the branch of a case with a form's arguments."""
     specs = " \\\n".join(f"        {spec}" for spec in zsh_specs(form))
     return f"words:{form.words[1]})\n    _arguments \\\n{specs}\n    ;;\n"
 
 
 def zsh(program):
-    """The completions of a program for zsh."""
+    """Returns the completions of a program for zsh."""
     specs = " \\\n".join(f"    {spec}" for spec in zsh_specs(program.own, program.forms))
     branches = filled(ZSH_OF_FORMS, FORMS="".join(map(zsh_branch, program.forms))) if program.forms else ""
     return filled(ZSH, NAME=program.name(), SPECS=specs, BRANCHES=branches)

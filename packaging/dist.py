@@ -1,6 +1,6 @@
-"""Makes what hosts install, in dist/: a tarball, a package for Debian, a Containerfile that takes that package,
-PROVED.json, which says what was proved of the programs, and SHA256SUMS. `./run --dist` hands it the programs. The same
-commit gives the same bytes.
+"""Makes the files that hosts install, in dist/: a tarball, a package for Debian, a Containerfile that uses that
+package, PROVED.json, which says what was proved of the programs, and SHA256SUMS. `./run --dist` passes the programs to
+it. One commit always gives equal bytes.
 
 It needs git, and strip and readelf of binutils; dpkg-deb for the package.
 """
@@ -27,11 +27,11 @@ HERE = os.path.dirname(os.path.realpath(__file__))
 TOP = os.path.dirname(HERE)
 NEEDED = ("git", "strip", "readelf", "dpkg-deb")
 SUMMARY = "text world for many players, with a guide whose answers can be checked"
-# The address is nobody's: there is none that could be written to.
+# The address has no owner: there is none to write to.
 MAINTAINER = "The Seamountcup maintainers <maintainers@seamountcup.invalid>"
 NUMBER = re.compile(r"^## (\d+\.\d+\.\d+)", re.MULTILINE)
 LIBC = re.compile(r"GLIBC_(\d+)\.(\d+)")
-# What is read by people, as it stands in the repository.
+# The files for readers, as in the repository.
 READ = ["README.md", "CHANGELOG.md", "LICENSE", "docs", "examples"]
 EXECUTABLE, PLAIN = 0o755, 0o644
 
@@ -41,13 +41,13 @@ def fail(why):
 
 
 def git(*words):
-    """What git says to these words, without the last line end."""
+    """Returns git's output for these words, without the last line end."""
     return subprocess.run(["git", "-C", TOP, *words], capture_output=True, text=True, check=True).stdout.rstrip("\n")
 
 
 @dataclass
 class Release:
-    """What is released: its number, whether its programs are proved, its commit and the time of that, and the kit."""
+    """A release: its number, whether its programs are proved, its commit and the time of that, and the kit."""
 
     number: str
     is_proved: bool
@@ -56,29 +56,29 @@ class Release:
     kit: str
 
     def version(self):
-        """The version in the names of files: it says so where nothing is proved."""
+        """Returns the version in the names of files: it says if nothing is proved."""
         return self.number if self.is_proved else f"{self.number}-unproved"
 
     def debian_version(self):
-        """The version of the package; that of a proved one is the greater of two with one number."""
+        """Returns the version of the package; of two with one number, that of the proved one is greater."""
         return self.number if self.is_proved else f"{self.number}~unproved"
 
     def time(self):
-        """The time of the commit."""
+        """Returns the time of the commit."""
         return datetime.fromtimestamp(self.seconds, timezone.utc)
 
     def says(self, name):
-        """What the program of this name answers to `--version`."""
+        """Returns the answer of the program with this name to `--version`."""
         return f"{name} {self.number}, {f'proved with {self.kit}' if self.is_proved else 'unproved'}\n"
 
 
 def missing():
-    """The commands that a release wants and that are not on the path."""
+    """Returns the commands that a release needs and that are not on the path."""
     return [name for name in NEEDED if not shutil.which(name)]
 
 
 def release_of(is_proved, kit):
-    """The release of what is checked out, all of which has to be committed."""
+    """Returns the release of the checkout, which must have no changes."""
     if missing():
         fail(f"a release wants {', '.join(missing())}, which is not on the path")
     if changed := git("status", "--porcelain"):
@@ -92,7 +92,7 @@ def release_of(is_proved, kit):
 
 
 def write(path, text, mode=PLAIN):
-    """Writes a file, and the folders above it."""
+    """Writes a file, and creates the folders above it."""
     os.makedirs(os.path.dirname(path), exist_ok=True)
     with open(path, "wb") as file:
         file.write(text if isinstance(text, bytes) else text.encode())
@@ -105,7 +105,7 @@ def read(path):
 
 
 def template(name, **values):
-    """A text of this folder, its placeholders filled."""
+    """Returns a text of this folder with its placeholders filled."""
     return filled(read(f"{HERE}/{name}").decode(), **values)
 
 
@@ -114,7 +114,7 @@ def sum_of(path):
 
 
 def files_below(folder):
-    """The paths of all files below a folder, from there, sorted."""
+    """Returns the paths of all files below a folder, relative to it, sorted."""
     walk = ((os.path.relpath(above, folder), names) for above, _, names in os.walk(folder))
     return sorted(os.path.normpath(f"{above}/{name}") for above, names in walk for name in names)
 
@@ -123,7 +123,7 @@ def files_below(folder):
 
 
 def put_programs(paths, folder):
-    """Puts the programs without what only a debugger reads. Those that are one file stay one, with several names."""
+    """Copies the programs without debugging data. Those that are one file stay one, with several names."""
     os.makedirs(folder)
     first = {}
     for name, path in sorted(paths.items()):
@@ -135,7 +135,8 @@ def put_programs(paths, folder):
 
 
 def check_versions(release, folder, names):
-    """Whether each program says what it is: nothing unproved goes out as proved, and nothing of another version."""
+    """Checks that each program says what it is: no unproved program is released as proved, and none of another
+    version."""
     for name in names:
         said = subprocess.run([f"{folder}/{name}", "--version"], capture_output=True, text=True, check=False).stdout
         if said != release.says(name):
@@ -143,7 +144,7 @@ def check_versions(release, folder, names):
 
 
 def proved_text(release, folder, crates):
-    """What was proved, as PROVED.json has it: by the name of each crate the tree that git has of its sources."""
+    """Returns the text of PROVED.json: for the name of each proved crate git's tree of its sources."""
     trees = {name: git("rev-parse", f"HEAD:crates/{name}") for name in sorted(crates)} if release.is_proved else {}
     programs = {name: sum_of(f"{folder}/{name}") for name in sorted(os.listdir(folder))}
     told = {"version": release.version(), "commit": release.commit, "kit": release.kit, "proved": release.is_proved}
@@ -151,7 +152,7 @@ def proved_text(release, folder, crates):
 
 
 def put_read(folder, licenses):
-    """Puts what people read, and the licences of the kit's crates that are in the programs."""
+    """Copies the files for readers, and the licences of the kit's crates in the programs."""
     for name in READ:
         if os.path.isdir(f"{TOP}/{name}"):
             shutil.copytree(f"{TOP}/{name}", f"{folder}/{name}")
@@ -163,7 +164,7 @@ def put_read(folder, licenses):
 
 
 def put_all(release, folder, prefix, programs, proved, licenses):
-    """Puts all that the tarball and the package share below a folder that is to become the prefix."""
+    """Copies everything that the tarball and the package share below the folder of the prefix."""
     shutil.copytree(programs, f"{folder}/bin", copy_function=name_again)
     for name in ("launch", "serve"):
         write(f"{folder}/libexec/seamountcup/{name}", read(f"{HERE}/{name}"), EXECUTABLE)
@@ -180,7 +181,7 @@ def put_all(release, folder, prefix, programs, proved, licenses):
 
 
 def name_again(source, target):
-    """Gives a file a second name, so that files that are one stay one."""
+    """Gives a file a second name, so that names of one file stay so."""
     os.link(source, target)
 
 
@@ -188,7 +189,7 @@ def name_again(source, target):
 
 
 def entry_of(release, info):
-    """An entry of a tarball that says nothing of who made it, where and when."""
+    """Returns an entry of a tarball that names no author, place and time."""
     info.uid = info.gid = 0
     info.uname = info.gname = "root"
     info.mtime = release.seconds
@@ -196,7 +197,7 @@ def entry_of(release, info):
 
 
 def make_tarball(release, room, name):
-    """Packs the folder of this name in a room; the file's bytes."""
+    """Packs the folder of this name in a room, and returns the file's bytes."""
     packed = f"{room}/{name}.tar"
     with tarfile.open(packed, "w", format=tarfile.GNU_FORMAT) as tar:
         for path in [".", *files_below(f"{room}/{name}")]:
@@ -212,7 +213,7 @@ def make_tarball(release, room, name):
 
 
 def least_libc(programs):
-    """The oldest C library that has all that the programs take of it."""
+    """Returns the oldest version of the C library that the programs can use."""
     found = []
     for name in os.listdir(programs):
         words = ["readelf", "--version-info", "--wide", f"{programs}/{name}"]
@@ -222,7 +223,7 @@ def least_libc(programs):
 
 
 def put_control(release, folder, programs):
-    """Puts what dpkg reads of a package, whose other files stand in the folder already."""
+    """Writes the files of a package for dpkg; its other files are in the folder already."""
     size = sum(os.stat(f"{folder}/{path}").st_size for path in files_below(folder))
     how = {"VERSION": release.debian_version(), "SIZE": str(-(-size // 1024)), "LIBC": least_libc(programs)}
     sums = "".join(f"{hashlib.md5(read(f'{folder}/{path}')).hexdigest()}  {path}\n" for path in files_below(folder)
@@ -235,7 +236,7 @@ def put_control(release, folder, programs):
 
 
 def as_debian(release, folder):
-    """Moves and packs what Debian has elsewhere, or in another form."""
+    """Moves and packs files as Debian wants them."""
     zsh = f"{folder}/usr/share/zsh"
     os.rename(f"{zsh}/site-functions", f"{zsh}/vendor-completions")
     docs = f"{folder}/usr/share/doc/seamountcup"
@@ -268,7 +269,7 @@ def make_package(release, folder, programs, path):
 
 
 def make_both(release, room, out, programs, proved, licenses):
-    """Makes the tarball and the package, in a room, of the programs of a folder."""
+    """Makes the tarball and the package, in a room, from the programs of a folder."""
     name = f"seamountcup-{release.version()}-linux-x86_64"
     put_all(release, f"{room}/{name}", "/usr/local", programs, proved, licenses)
     write(f"{room}/{name}/etc/seamountcup/serve.toml", template("serve.toml"))
@@ -279,8 +280,8 @@ def make_both(release, room, out, programs, proved, licenses):
 
 
 def make_files(release, out, paths, crates, licenses):
-    """Makes all files of a release, in a folder that is not there yet, of the programs at these paths. `crates` are
-    those that they are made of, `licenses` the files of the licences of the kit's crates among them, by crate."""
+    """Makes all files of a release, in a new folder, from the programs at these paths. `crates` are their crates, and
+    `licenses` the files of the licences of the kit's crates among them, by crate."""
     with tempfile.TemporaryDirectory(prefix="dist-") as room:
         programs = f"{room}/programs"
         put_programs(paths, programs)
@@ -295,7 +296,7 @@ def make_files(release, out, paths, crates, licenses):
 
 
 def make(release, paths, crates, licenses):
-    """Makes dist/ of what is checked out; the paths of its files, from the top."""
+    """Makes dist/ of the checkout, and returns the paths of its files, from the top."""
     if release_of(release.is_proved, release.kit) != release:
         fail("another commit was checked out meanwhile")
     out = f"{TOP}/dist"

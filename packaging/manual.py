@@ -1,7 +1,7 @@
-"""The pages of the manual, in mdoc: packaging/manual/ has their prose, and the options are those that `--help` tells.
+"""The manual pages, in mdoc: packaging/manual/ has their prose, and the options come from `--help`.
 
-In a page `%HEAD` stands for its head with name and synopsis, `%FORMS` for the options of each form, `%DATE` for the day
-of the release, and `%PREFIX` for the folder below which it is installed.
+In a page `%HEAD` is its head with name and synopsis, `%FORMS` the options of each form, `%DATE` the day of the release,
+and `%PREFIX` the folder of the installation.
 """
 import os
 import textwrap
@@ -9,41 +9,41 @@ import textwrap
 from templates import filled
 
 FOLDER = f"{os.path.dirname(os.path.realpath(__file__))}/manual"
-# What each program has, and says by itself.
+# The options that each program has, and describes by itself.
 COMMON = ("--help", "--version")
 LONGEST = 80
 
 
 def escaped(text):
-    """A text as it stands in a line of roff: its dashes can be copied, and its backquotes quote."""
+    """Returns a text as a line of roff: its dashes can be copied, and its backquotes quote."""
     quoted = "".join(piece + ("\\(oq", "\\(cq")[at % 2] for at, piece in enumerate(text.split("`")))
     return quoted.removesuffix("\\(oq").removesuffix("\\(cq").replace("-", "\\-")
 
 
 def lowered(text):
-    """A text whose first letter is small, as after a dash."""
+    """Returns a text with a small first letter, as after a dash."""
     return text[:1].lower() + text[1:]
 
 
 def flag(option):
-    """An option with its value, as mdoc has it."""
+    """Returns an option with its value, in mdoc."""
     return f"Fl {option.long[1:]}" + (f" Ar {option.value}" if option.value else "")
 
 
 def own(form):
-    """The options of a form that are not common to all."""
+    """Returns the options of a form that are not common to all."""
     return [option for option in form.options if option.long not in COMMON]
 
 
 def synopsis_of(form):
-    """The lines that show how a form is called."""
+    """Returns the lines that show how to call a form."""
     lines = [".Nm", *(f".Cm {word}" for word in form.words[1:])]
     lines += [f".{'' if option.is_required else 'Op '}{flag(option)}" for option in own(form)]
     return lines + [f".{'' if file.is_required else 'Op '}Ar {file.name}" for file in form.files]
 
 
 def head_of(program):
-    """The head of a program's page, its name and its synopsis."""
+    """Returns the head of a program's page, its name and its synopsis."""
     name = program.name()
     lines = [".Dd %DATE", f".Dt {name.upper()} 1", ".Os", ".Sh NAME", f".Nm {name}"]
     lines += [f".Nd {lowered(escaped(program.own.about))}", ".Sh SYNOPSIS"]
@@ -53,7 +53,7 @@ def head_of(program):
 
 
 def items_of(form):
-    """What a form takes, an item each."""
+    """Returns a form's arguments, an item each."""
     rows = [(f".It Ar {file.name}", file.text, None) for file in form.files]
     rows += [(f".It {flag(option)}", option.text, option.default) for option in own(form)]
     for item, text, default in rows:
@@ -64,7 +64,7 @@ def items_of(form):
 
 
 def forms_of(program):
-    """What each form does and takes."""
+    """Returns each form with its purpose and its arguments."""
     lines = []
     for form in program.forms:
         lines += [f".Ss {escaped(form.name())}", f"{escaped(form.about)}."]
@@ -75,18 +75,18 @@ def forms_of(program):
 
 
 def cut(line):
-    """A line of text in lines that are not too long, none of which begins as a macro does. Macros stay whole."""
+    """Returns a line of text as lines of limited length. None begins as a macro does, and macros stay whole."""
     whole = {"break_long_words": False, "break_on_hyphens": False}
     return [line] if line.startswith(".") else textwrap.wrap(line, LONGEST, **whole)
 
 
 def laid_out(text):
-    """A page whose lines are as long as they may be."""
+    """Returns a page with lines of limited length."""
     return "".join(f"{line}\n" for whole in text.splitlines() for line in cut(whole))
 
 
 def pages(programs, time, prefix):
-    """The names of the pages with their texts. `time` is that of the release."""
+    """Returns the names of the pages with their texts. `time` is that of the release."""
     values = {"DATE": f"{time:%B} {time.day}, {time.year}", "PREFIX": prefix}
     found = {}
     for name in sorted(os.listdir(FOLDER)):

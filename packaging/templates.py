@@ -2,7 +2,7 @@
 
 
 def filled(text, **values):
-    """A text in which each placeholder has its value: `filled("%NAME runs", NAME="mud_serve")`."""
+    """Returns a text with a value for each placeholder: `filled("%NAME runs", NAME="mud_serve")`."""
     for name, value in values.items():
         text = text.replace(f"%{name}", value)
     return text

@@ -1,9 +1,9 @@
 #!/usr/bin/env python3
-"""check.py HISTORY PROOF: says what mud_check says of the two files, with its statuses.
-check.py: of standard input.
+"""check.py HISTORY PROOF: prints mud_check's line for the two files, and has its statuses.
+check.py: does so for standard input.
 
-A checker for tests, written from docs/ alone: CHECKER, HISTORY, WORLD, KEYS, ROADS and CERTIFICATES. Each rule stands
-here as its page says it, and nothing is made quick. `verdict` is the whole of it.
+A checker for tests, written from docs/ alone: CHECKER, HISTORY, WORLD, KEYS, ROADS and CERTIFICATES. Each rule follows
+the words of its page, and nothing is made quick. `verdict` is the whole checker.
 """
 import re
 import sys
@@ -39,7 +39,7 @@ class NoKey(Exception):
 
 
 class KeyText:
-    """A key text whose objects are all `#n`, read by the grammar: a tuple of a sign and what it joins."""
+    """Reads a key text whose objects are all `#n`, by the grammar. A key is a tuple of a sign and what it joins."""
 
     def __init__(self, text):
         self.tokens = re.findall(r"&&|\|\||[!?()]|#[0-9]{1,9}|[^ ]", text)
@@ -85,18 +85,18 @@ def printed(key):
 
 
 def beside(key):
-    """A key as it is printed behind `!` or on the right of an operator."""
+    """Returns a key as it is printed behind `!` or on the right of an operator."""
     return f"({printed(key)})" if key[0] in ("&&", "||") else printed(key)
 
 
 def atoms(key):
-    """The objects of a key, each with its sign, as often as they stand there."""
+    """Returns the objects of a key, each with its sign, as often as they occur."""
     sign, *of = key
     return [key] if sign in "?#" else [atom for one in of for atom in atoms(one)]
 
 
 def key_of(text):
-    """The key that is printed so; None where there is none."""
+    """Returns the key that is printed so, or None if there is no such key."""
     try:
         key = KeyText(text).read() if len(text) <= LONGEST_KEY else None
     except NoKey:
@@ -110,7 +110,7 @@ def key_of(text):
 
 QUOTED = '"([^"]*)"'
 DUG = "names object names names"
-# Of each kind of change, what stands behind the actor in its line, and what its parts are.
+# For each kind of change: the form of its line behind the actor, and the types of its parts.
 CHANGES = {
     "dig": (rf"(?:new {QUOTED}|old ({SHARP})(?= out ))(?: out {QUOTED}(?: back {QUOTED})?)?", DUG),
     "make": (QUOTED, "names"),
@@ -135,7 +135,7 @@ class Change:
 
 
 def object_of(sharp):
-    """The object of `#n`; None where its number is too great."""
+    """Returns the object of `#n`, or None if its number is too great."""
     number = int(sharp[1:])
     return number if number <= LAST else None
 
@@ -158,7 +158,7 @@ MEANT |= {"cost": cost_of, "said": said_of}
 
 
 def change_of(kind, actor, rest):
-    """The change that a line spells behind its desk; None where it spells none."""
+    """Returns the change that a line spells behind its desk, or None if it spells no change."""
     pattern, meant = CHANGES.get(kind, ("(?!)", ""))
     match = re.fullmatch(pattern, rest)
     if not match or object_of(actor) is None:
@@ -171,13 +171,13 @@ def change_of(kind, actor, rest):
 
 
 def lines_of(text):
-    """The lines that line feeds end, and what stands after the last of them."""
+    """Returns the lines that line feeds end, and the text after the last of them."""
     *lines, rest = text.replace("\r\n", "\n").split("\n")
     return lines, rest
 
 
 def changes_of(text):
-    """The changes of a history's text; Found where it has a fault."""
+    """Returns the changes of a history's text. Raises Found if it has a fault."""
     lines, rest = lines_of(text)
     need(lines and lines[0] in ("mud history 1", "mud history 2"), "unreadable: not a history")
     least_cost = 1 if lines[0].endswith("1") else 0
@@ -212,7 +212,7 @@ class Object:
 
 
 class Illegal(Exception):
-    """A change is refused."""
+    """The world refuses a change."""
 
 
 def legal(holds):
@@ -229,7 +229,7 @@ class World:
         self.next = 2
 
     def change(self, change):
-        """Makes a change; Illegal where its condition doesn't hold."""
+        """Makes a change. Raises Illegal if its condition doesn't hold."""
         legal(change.kind == "player" or self.is_kind(change.actor, "player"))
         getattr(self, change.kind)(change.actor, *change.parts)
 
@@ -245,7 +245,7 @@ class World:
     # -- places
 
     def places(self, number):
-        """The object itself, and what following places gives from it."""
+        """Returns the object itself, and all objects to which following places leads."""
         while number is not None:
             yield number
             number = self.objects[number].place
@@ -280,12 +280,12 @@ class World:
         return (all if sign == "&&" else any)(self.is_true(one, candidate) for one in of)
 
     def nests(self, key, most):
-        """Whether at most so many questions lead on from a key, one after the other."""
+        """Returns whether at most `most` questions lead on from a key, one after the other."""
         asked = {number for sign, number in atoms(key) if sign == "?"} if key else set()
         keys = [self.objects[number].key if number in self.objects else None for number in asked]
         return not asked or (most > 0 and all(self.nests(one, most - 1) for one in keys))
 
-    # -- what is asked of more than one kind
+    # -- what more than one kind of change asks
 
     def owned(self, actor, number):
         legal(number in self.objects and (actor == 1 or self.objects[number].owner == actor))
@@ -348,7 +348,7 @@ class World:
         self.objects[actor].place = self.objects[number].to
 
     def is_open(self, number, player):
-        """Whether an exit is open to a player (docs/ROADS.md)."""
+        """Returns whether an exit is open to a player (docs/ROADS.md)."""
         return self.is_unlocked(number, player) and self.is_unlocked(self.objects[number].to, player)
 
     def cost(self, actor, number, cost):
@@ -375,7 +375,7 @@ class World:
 
 
 def world_of(changes):
-    """The world of some changes; Found where one isn't legal."""
+    """Returns the world after some changes. Raises Found if one isn't legal."""
     world = World()
     for at, change in enumerate(changes, 1):
         try:
@@ -417,7 +417,7 @@ def taken(pattern, line):
 
 
 def objects_in(words):
-    """The objects of words that are all `#n`."""
+    """Returns the objects of words that are all `#n`."""
     for word in words:
         taken(SHARP, word)
     numbers = [object_of(word) for word in words]
@@ -477,7 +477,7 @@ class ProofText:
 
 
 def conclude(certificate, line):
-    """Takes in the conclusion."""
+    """Reads the conclusion."""
     count = len(certificate.members)
     if count > 1 and line == "meet none":
         return
@@ -491,7 +491,7 @@ def conclude(certificate, line):
 
 
 def certificate_of(text):
-    """The certificate of a text; Found with the bad line where it has none."""
+    """Returns the certificate of a text. Raises Found with the bad line if there is none."""
     proof = ProofText(text)
     try:
         return proof.certificate()
@@ -507,7 +507,7 @@ def plus(label, cost, form):
 
 
 def doubt_member(world, certificate, at):
-    """The doubts 1 to 7 of one member."""
+    """Raises the doubts 1 to 7 of one member."""
     member, form = certificate.members[at], certificate.form
     player, labels = member.player, member.labels
     earlier = [one.player for one in certificate.members[:at]]
@@ -532,14 +532,14 @@ def doubt_member(world, certificate, at):
 
 
 def end_of(world, member):
-    """Where a walk that is not broken ends; None without a walk."""
+    """Returns where a walk that is not broken ends, or None without a walk."""
     if member.walk is None:
         return None
     return world.objects[member.walk[-1]].to if member.walk else member.start
 
 
 def agrees(world, certificate):
-    """Whether the conclusion agrees with the walks and the labels: doubt 8."""
+    """Returns whether the conclusion agrees with the walks and the labels: doubt 8."""
     members, room, cost = certificate.members, certificate.room, certificate.cost
     common = set.intersection(*(set(member.labels) for member in members))
     if cost is None:
@@ -567,7 +567,7 @@ def judge(history, proof):
 
 
 def verdict(history, proof):
-    """The checker's line for the bytes of a history and a certificate."""
+    """Returns the checker's line for the bytes of a history and a certificate."""
     try:
         judge(history.decode("latin-1"), proof.decode("latin-1"))
     except Found as found:
@@ -576,7 +576,7 @@ def verdict(history, proof):
 
 
 def split(text):
-    """What standard input holds: the bytes of the history, and those of the certificate."""
+    """Returns the contents of standard input: the bytes of the history, and those of the certificate."""
     match = re.search(rb"^end [^\n]*(?:\n|$)", text, re.M)
     end = match.end() if match else len(text)
     return text[:end], text[end:]

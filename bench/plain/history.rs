@@ -4,14 +4,14 @@ use std::fmt::{self, Display, Formatter};
 
 pub type Names = Vec<String>;
 
-/// Where an exit that was dug leads: to a new room of these names, or to an old one.
+/// The destination of a new exit: a new room with these names, or an old one.
 pub enum Target {
     New(Names),
     Old(u32),
 }
 
 pub enum Deed {
-    /// The names of the exit, and of the one back, where they are.
+    /// The names of the exit, and of the one back, if there are any.
     Dig(Target, Vec<Names>),
     Make(Names),
     /// The key is printed.

@@ -11,13 +11,14 @@ pub enum Key {
 }
 
 impl Key {
-    /// The key that a text is, or nothing.
+    /// Returns the key that a text spells, or nothing.
     pub fn read(text: &str) -> Option<Key> {
         let mut parser = Parser { rest: text };
         parser.chain().filter(|_| parser.rest.trim().is_empty())
     }
 
-    /// Whether the test holds of each object of the key; it is told whether the key asks the object.
+    /// Returns whether the test holds for each object of the key; its argument says whether the key asks about the
+    /// object.
     pub fn all(&self, test: &mut impl FnMut(usize, bool) -> bool) -> bool {
         match self {
             Key::Has(object) => test(*object, false),
@@ -27,7 +28,8 @@ impl Key {
         }
     }
 
-    /// Whether the key is true, where the test says it of its objects; it is told whether the key asks the object.
+    /// Returns whether the key is true with this test of its objects; its argument says whether the key asks about the
+    /// object.
     pub fn is_true(&self, test: &impl Fn(usize, bool) -> bool) -> bool {
         match self {
             Key::Has(object) => test(*object, false),
@@ -38,7 +40,7 @@ impl Key {
         }
     }
 
-    /// Prints the key with the least parentheses; a part stands behind a sign.
+    /// Prints the key with the fewest parentheses; a part stands behind a sign.
     pub fn write(&self, text: &mut String, is_part: bool) {
         match self {
             Key::Has(object) => write!(text, "#{object}").expect("memory"),

@@ -1,4 +1,4 @@
-//! What a line of the Wizard is answered by the plain program, as docs/COMMANDS.md says.
+//! The plain program's answers to lines of the Wizard, as docs/COMMANDS.md says.
 
 use crate::history::{Deed, Names, Target};
 use crate::keys::Key;
@@ -7,7 +7,7 @@ use crate::words::{Line, Parts};
 use crate::world::{Kind, WIZARD, World, names_of};
 use std::fmt::Write;
 
-/// Why a line is refused.
+/// The reason why a line is refused.
 #[derive(Clone, Copy, PartialEq)]
 pub enum Refusal {
     NotUnderstood,
@@ -27,7 +27,7 @@ pub enum Refusal {
 
 use Refusal::*;
 
-/// A text is pushed, or a refusal is given and nothing pushed.
+/// A pushed text, or a refusal and nothing pushed.
 type Answer = Result<(), Refusal>;
 
 /// The verbs of docs/COMMANDS.md that this program doesn't know.
@@ -55,7 +55,7 @@ fn need(holds: bool, refusal: Refusal) -> Result<(), Refusal> {
     if holds { Ok(()) } else { Err(refusal) }
 }
 
-/// Pushes what a line is answered. A change is made, and stands in the history.
+/// Pushes the answer to a line. It makes a change, and stores it in the history.
 pub fn answer(world: &mut World, line: &Line, text: &mut String) {
     let told = match line.verb.as_str() {
         "say" | "emote" => talk(world, line, text),
@@ -109,14 +109,14 @@ fn meant(world: &World, text: &str) -> Result<u32, Refusal> {
     only(world, text, || lists.into_iter().flatten().copied())
 }
 
-/// The number of `#` and 1 to 9 digits.
+/// Returns the number of `#` and 1 to 9 digits.
 fn number_of(text: &str) -> Option<u32> {
     let digits = text.strip_prefix('#')?;
     let is_number = (1..=9).contains(&digits.len()) && digits.bytes().all(|it| it.is_ascii_digit());
     if is_number { digits.parse().ok() } else { None }
 }
 
-/// The one candidate that has the name, or else the one that has a name that begins so.
+/// Returns the one candidate with the name, or else the one with a name that begins so.
 fn only<I: Iterator<Item = u32>>(world: &World, text: &str, candidates: impl Fn() -> I) -> Result<u32, Refusal> {
     let has = |it: &u32| world.of(*it).names.iter().any(|name| name.eq_ignore_ascii_case(text));
     let begins = |it: &u32| world.of(*it).names.iter().any(|name| begins_so(name, text));
@@ -135,7 +135,7 @@ fn one(mut found: impl Iterator<Item = u32>) -> Result<u32, Refusal> {
     if found.next().is_some() { Err(Ambiguous) } else { Ok(first) }
 }
 
-/// The room that a text means, anywhere in the world.
+/// Returns the room that a text means, anywhere in the world.
 fn room_meant(world: &World, text: &str) -> Result<u32, Refusal> {
     let is_other = number_of(text).is_some() || ["me", "here"].iter().any(|it| text.eq_ignore_ascii_case(it));
     let is_room = |it: &u32| matches!(world.of(*it).kind, Kind::Room);
@@ -143,7 +143,7 @@ fn room_meant(world: &World, text: &str) -> Result<u32, Refusal> {
     need(is_room(&found), WrongKind).map(|()| found)
 }
 
-/// The exit of his room that has the whole line as a name.
+/// Returns the exit of the player's room that has the whole line as a name.
 fn exit_named(world: &World, line: &Line) -> Result<u32, Refusal> {
     let whole = line.whole();
     let has = |it: &u32| world.of(*it).names.iter().any(|name| name.eq_ignore_ascii_case(&whole));
@@ -251,7 +251,7 @@ fn create(world: &mut World, line: &Line, text: &mut String) -> Answer {
     Ok(())
 }
 
-/// The names of an exit, and of the one back where there is one.
+/// Returns the names of an exit, and of the one back if there is one.
 fn doors_of(sides: &[&str]) -> Result<Vec<Names>, Refusal> {
     need(sides.len() <= 2, BadName)?;
     sides.iter().map(|side| names_of(side).ok_or(BadName)).collect()
@@ -333,7 +333,7 @@ fn lock(world: &mut World, line: &Line, text: &mut String) -> Answer {
     Ok(())
 }
 
-/// Whether a key has at most sixteen objects, each of the world.
+/// Returns whether a key has at most sixteen objects, all in the world.
 fn is_key(world: &World, key: &Key) -> bool {
     let mut count = 0;
     key.all(&mut |object, is_asked| {

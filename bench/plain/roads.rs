@@ -4,25 +4,25 @@ use std::cmp::Reverse;
 use std::collections::BinaryHeap;
 use std::fmt::Write as _;
 
-/// Where an exit is, where it leads, and what it costs.
+/// The source, the destination and the cost of an exit.
 pub type Passage = (u32, u32, u32);
 
 /// The least cost to a room, and the fewest exits at that cost.
 type Label = (u32, u32);
 
-/// What a search asks of a world.
+/// The queries of a search about a world.
 pub trait Map {
-    /// How many objects there are.
+    /// Returns the number of objects.
     fn size(&self) -> usize;
 
-    /// The exits that leave a room, by rising number.
+    /// Returns the exits that leave a room, sorted by number.
     fn leaving(&self, room: u32) -> &[u32];
 
-    /// The passage of an exit.
+    /// Returns the passage of an exit.
     fn passage(&self, exit: u32) -> Passage;
 }
 
-/// A world, and which of its objects are unlocked for somebody.
+/// A world, and which of its objects are unlocked for a player.
 pub struct Roads<'a, M: Map> {
     pub map: &'a M,
     pub open: Vec<bool>,
@@ -33,7 +33,7 @@ impl<M: Map> Roads<'_, M> {
         self.open[exit as usize] && self.open[to as usize]
     }
 
-    /// The labels of all rooms that can be reached.
+    /// Returns the labels of all reachable rooms.
     fn labels(&self, from: u32) -> Vec<Option<Label>> {
         let mut labels: Vec<Option<Label>> = vec![None; self.map.size()];
         let mut heap = BinaryHeap::from([Reverse(((0u32, 0u32), from))]);
@@ -54,7 +54,7 @@ impl<M: Map> Roads<'_, M> {
         labels
     }
 
-    /// For each room the lowest exit that ends a least walk there.
+    /// Returns for each room the lowest exit that ends a least walk there.
     fn last(&self, labels: &[Option<Label>]) -> Vec<Option<u32>> {
         let mut last: Vec<Option<u32>> = vec![None; labels.len()];
         for (room, label) in labels.iter().enumerate() {
@@ -70,7 +70,7 @@ impl<M: Map> Roads<'_, M> {
         last
     }
 
-    /// The answer to a question for the route to a room.
+    /// Returns the answer to a question for the route to a room.
     pub fn route(&self, from: u32, target: u32) -> String {
         let labels = self.labels(from);
         let mut text = format!("route #{from} to #{target}");

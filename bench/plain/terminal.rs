@@ -26,7 +26,7 @@ pub enum Unit {
     Answer([u8; 3]),
 }
 
-/// Where in a command the stream is.
+/// The position of the stream in a command.
 #[derive(Default)]
 enum Place {
     #[default]
@@ -46,7 +46,7 @@ pub struct Terminal {
 }
 
 impl Terminal {
-    /// The next unit of these bytes, which are taken up to its end; nothing where they give none any more.
+    /// Returns the next unit of these bytes, and consumes them up to its end; nothing if they give no more.
     pub fn next(&mut self, bytes: &mut &[u8]) -> Option<Unit> {
         while let Some((&byte, rest)) = bytes.split_first() {
             if matches!(self.place, Place::Data) && is_character(byte) {
@@ -112,7 +112,7 @@ impl Terminal {
         Some(Unit::Answer([IAC, no, option]))
     }
 
-    /// Takes the characters with which the bytes begin, and gives the rest.
+    /// Consumes the characters at the start of the bytes, and returns the rest.
     fn characters<'a>(&mut self, bytes: &'a [u8]) -> &'a [u8] {
         let length = bytes.iter().position(|byte| !is_character(*byte)).unwrap_or(bytes.len());
         self.is_after_return = false;

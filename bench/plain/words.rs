@@ -1,4 +1,4 @@
-//! A line of a player, taken apart as the plain program does it: its words, its verb, what stands round a preposition.
+//! A line of a player, parsed as the plain program does it: its words, its verb, the texts around a preposition.
 
 use std::borrow::Cow;
 
@@ -24,19 +24,19 @@ const PREPOSITIONS: [&str; 15] = [
 pub struct Line<'a> {
     /// The first word in lower case.
     pub verb: String,
-    /// What stands after the first word, as it was typed.
+    /// The text behind the first word, as typed.
     pub rest: &'a str,
     words: Vec<Cow<'a, str>>,
 }
 
-/// What stands before a preposition, the first phrase of its row, and what stands after it.
+/// The text before a preposition, the first phrase of its row, and the text after it.
 pub struct Parts {
     pub direct: String,
     pub preposition: &'static str,
     pub indirect: String,
 }
 
-/// The line for which this one stands, where it begins with a sign.
+/// Returns the line that this one stands for if it begins with a sign.
 pub fn spelled_out(text: &str) -> Cow<'_, str> {
     let text = text.trim_start_matches(' ');
     let verb = match text.bytes().next() {
@@ -49,29 +49,29 @@ pub fn spelled_out(text: &str) -> Cow<'_, str> {
 }
 
 impl Line<'_> {
-    /// Takes a line apart that is spelled out; a blank one has nothing.
+    /// Parses a spelled-out line; a blank one gives nothing.
     pub fn read(text: &str) -> Option<Line<'_>> {
         let (words, end) = words_of(text);
         let verb = words.first()?.to_ascii_lowercase();
         Some(Line { verb, rest: text[end..].trim_matches(' '), words })
     }
 
-    /// The words after the verb.
+    /// Returns the words after the verb.
     pub fn words(&self) -> &[Cow<'_, str>] {
         &self.words[1..]
     }
 
-    /// All words, joined.
+    /// Returns all words, joined.
     pub fn whole(&self) -> String {
         self.words.join(" ")
     }
 
-    /// The words after the verb, joined.
+    /// Returns the words after the verb, joined.
     pub fn all(&self) -> String {
         self.words().join(" ")
     }
 
-    /// What stands round the first preposition, and round the longest there.
+    /// Returns the texts around the first preposition, taking the longest there.
     pub fn parts(&self) -> Option<Parts> {
         let words = self.words();
         let (at, (length, preposition)) = (0..words.len()).find_map(|at| Some((at, phrase_at(&words[at..])?)))?;
@@ -79,7 +79,7 @@ impl Line<'_> {
     }
 }
 
-/// The longest phrase with which the words begin: of how many words, and the first phrase of its row.
+/// Returns the longest phrase at the start of the words: its number of words, and the first phrase of its row.
 fn phrase_at(words: &[Cow<'_, str>]) -> Option<(usize, &'static str)> {
     let rows = PREPOSITIONS.iter().flat_map(|row| row.split('|').map(move |phrase| (phrase, row)));
     let found = rows.filter(|(phrase, _)| begins(words, phrase));
@@ -91,7 +91,7 @@ fn begins(words: &[Cow<'_, str>], phrase: &str) -> bool {
     phrase.split(' ').all(|part| words.next().is_some_and(|word| word.eq_ignore_ascii_case(part)))
 }
 
-/// The words of a text, and where the first one ends.
+/// Returns the words of a text, and where the first one ends.
 fn words_of(text: &str) -> (Vec<Cow<'_, str>>, usize) {
     if text.bytes().any(|sign| sign == b'"' || sign == b'\\') {
         return quoted_words_of(text);
@@ -100,7 +100,7 @@ fn words_of(text: &str) -> (Vec<Cow<'_, str>>, usize) {
     (words, text.find(' ').unwrap_or(text.len()))
 }
 
-/// The same where quotes and backslashes may stand in the text.
+/// Does so for a text with quotes and backslashes.
 fn quoted_words_of(text: &str) -> (Vec<Cow<'_, str>>, usize) {
     let (mut words, mut end) = (Vec::new(), text.len());
     let mut word: Option<String> = None;

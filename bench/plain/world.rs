@@ -67,7 +67,7 @@ impl World {
         (number as usize) < self.objects.len()
     }
 
-    /// How many more objects there may be.
+    /// Returns how many more objects there may be.
     pub fn room_left(&self) -> usize {
         FULL - self.objects.len()
     }
@@ -91,7 +91,7 @@ impl World {
         self.history.push(Change { actor, deed });
     }
 
-    /// Whether an actor may change an object.
+    /// Returns whether an actor may change an object.
     pub fn owns(&self, actor: u32, number: u32) -> bool {
         actor == WIZARD || self.of(number).owner == actor
     }
@@ -103,7 +103,7 @@ impl World {
         }
     }
 
-    /// Puts a thing or a player somewhere else.
+    /// Moves a thing or a player to another place.
     pub fn put(&mut self, number: u32, to: u32) {
         let (Kind::Thing(place) | Kind::Player(place)) = &mut self.of_mut(number).kind else { return };
         let from = std::mem::replace(place, to);
@@ -113,7 +113,7 @@ impl World {
         contents.insert(at, number);
     }
 
-    /// Whether following places from the object leads to the holder.
+    /// Returns whether following places from the object leads to the holder.
     pub fn is_within(&self, mut object: u32, holder: u32) -> bool {
         while object != holder {
             let Some(place) = self.place(object) else { return false };
@@ -122,19 +122,19 @@ impl World {
         true
     }
 
-    /// Whether an object is unlocked for a candidate. No key here asks.
+    /// Returns whether an object is unlocked for a candidate. No key here asks.
     pub fn is_open(&self, object: u32, candidate: u32) -> bool {
         let key = self.of(object).key.as_ref();
         key.is_none_or(|key| key.is_true(&|held, _| self.is_within(held as u32, candidate)))
     }
 
-    /// For each object whether it is unlocked for a candidate.
+    /// Returns for each object whether it is unlocked for a candidate.
     pub fn all_open(&self, candidate: u32) -> Vec<bool> {
         (0..self.next()).map(|object| self.is_open(object, candidate)).collect()
     }
 }
 
-/// The names that a text has between its commas, or nothing where it is no names text.
+/// Returns the names between the commas of a text, or nothing if it is no names text.
 pub fn names_of(text: &str) -> Option<Names> {
     let names: Names = text.split(',').map(|name| name.trim_matches(' ').to_owned()).collect();
     (names.len() <= 4 && names.iter().all(|name| is_name(name))).then_some(names)

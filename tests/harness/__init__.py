@@ -1,1 +1,1 @@
-"""What tests/run runs: its parts, and what they share."""
+"""The parts that tests/run runs, and what they share."""

@@ -1,11 +1,11 @@
 """A real browser plays at a built server: Chromium in the part `browser`, Firefox in the part `firefox`, both headless
-and driven over their debugging ports. They want
+and driven over their debugging ports. They need
 
     apt-get install --no-install-recommends chromium firefox-esr fonts-dejavu-core
 
-`tests/run browser FOLDER` leaves pictures of the page in a folder, at the widths of a desk and of a phone, light and
-dark, for whoever looks whether a page is one that a player wants to see. Those that README shows are among them:
-`page.png` and `page-phone.png`, there with fewer colours (`pngquant --nofs 64`).
+`tests/run browser FOLDER` leaves pictures of the page in a folder, at the widths of a desktop and of a phone, light and
+dark, to look at. Those that README shows are among them: `page.png` and `page-phone.png`, there with fewer colours
+(`pngquant --nofs 64`).
 """
 import glob
 import json
@@ -24,7 +24,7 @@ from harness.shown import EXITS, IN_WINDOW, LOG, by_id, click, text_of, type_lin
 from harness.visit import Visit
 from harness.web import WebServer
 
-# What is typed, and what the log then shows at its end.
+# The lines typed, and the end of the log after each.
 LINES = [
     ('@dig north|south to "The Library"', "dug room #3"),
     ("@create brass key", "made #6"), ("@dig up|down to The Attic", "dug room #7"), ("north", "exits south #5"),
@@ -33,9 +33,9 @@ LINES = [
     ("route to The Library", "route #0 to #3 cost 1 by #4"), ("proof route to #3", "8 lines"),
     ("route to The Vault", "no way"), ("@history", "12 lines"),
 ]
-# What is typed while another is there who came by Telnet, and what he says.
+# The line typed while another player is there by Telnet, and the lines of that player.
 ASKED, TOLD = "Which way is the library?", ["look", "route to The Library", "say North.", "proof route to The Library"]
-# What is typed before pictures are taken, and what another says there.
+# The lines typed before pictures are taken, and those of another player.
 SCENE = [
     "@dig west|east to Kitchen", "@dig south|north to Walled Garden", "south", "@dig gate to Orchard", "north", "north",
     "@dig west|east to Reading Room", "@dig northeast|southwest to Observatory", "south",
@@ -46,10 +46,11 @@ NAMES = ["The Hall", "The Library", "The Attic", "The Vault"]
 STATE = text_of("state")
 ROOMS = "[...document.querySelectorAll('#rooms li')].map((item) => item.textContent).join(' | ')"
 FITS = "document.documentElement.scrollWidth <= window.innerWidth"
-EMPTIED = "sessionStorage.clear(), world.clear()"  # What costs are counted by is large.
+# The part that measures costs leaves a large world.
+EMPTIED = "sessionStorage.clear(), world.clear()"
 LOADED, ON = "document.readyState === 'complete'", "document.body.dataset.state === 'on'"
-# How often a page of another origin sends lines to the port for Telnet, and what the log says of that; and how it sends
-# them, which answers how often nothing came back.
+# How often a page of another origin sends lines to the Telnet port, and the log line about it; and the script that
+# sends them, which returns how often no answer came.
 SENT, TOLD_OF = 400, b"sent a browser's request by Telnet"
 SEND = """(async (url, count) => {
   const how = { method: 'POST', mode: 'no-cors', body: '\\r\\nconnect Fetched\\r\\nsay by fetch\\r\\n' };
@@ -62,7 +63,7 @@ SEND = """(async (url, count) => {
 
 
 def count_guest(count, browser):
-    """Counts whether a guest sees a field for a name, and comes in by it."""
+    """Counts whether a guest sees a field for a name, and connects by it."""
     shown = browser.waits_for(f"!{by_id('guest')}.hidden && document.activeElement === {by_id('name')}", 10)
     browser.type("Ann")
     came = browser.waits_for(f"{LOG}.includes('welcome #2') && {by_id('guest')}.hidden", 10)
@@ -79,7 +80,7 @@ def type_all(count, browser):
 
 
 def count_page(count, browser):
-    """Counts what the page shows after that, once it is drawn."""
+    """Counts what the page shows afterwards, once it is drawn."""
     name = browser.name
     browser.value(by_id("words") + ".open = true")
     browser.waits_for(f"{ROOMS}.includes({NAMES[3]!r})", 5)
@@ -102,7 +103,7 @@ def count_page(count, browser):
 
 
 def count_hands(count, browser):
-    """Counts what clicks do: a room asks the way, the way is walked, an exit's button walks."""
+    """Counts what clicks do: one on a room asks for the way, one walks the way, and one on an exit's button walks."""
     browser.value("document.querySelector('#rooms button').closest('ul').children[1].firstChild.click()")
     shown = browser.waits_for(f"{by_id('all')}.hidden === true && {by_id('step')}.textContent === 'Go: north'", 10)
     count(f"{browser.name}: a click on a room asks the way", shown, browser.value(LOG)[-300:])
@@ -118,7 +119,7 @@ def count_hands(count, browser):
 
 
 def count_saved(count, browser, folder):
-    """Counts whether the checker accepts what the page saves, which is one file."""
+    """Counts whether the checker accepts the single file that the page saves."""
     click(browser, "save")
     for _ in range(50):
         files = glob.glob(f"{folder}/record-*.txt")
@@ -136,7 +137,7 @@ def count_saved(count, browser, folder):
 
 
 def count_still(count, browser):
-    """Counts whether a notice leaves the focus, and the map, where they are."""
+    """Counts whether a notice leaves the focus and the map unchanged."""
     browser.value(by_id("words") + ".open = true")
     browser.waits_for("document.querySelector('#rooms button')", 5)
     browser.value("document.querySelector('#rooms button').focus()")
@@ -162,7 +163,7 @@ def count_reload(count, browser):
 
 
 def count_again(count, browser, server, place):
-    """Counts whether the page comes back by itself, as who it was, to a server that goes on from the journal."""
+    """Counts whether the page reconnects by itself, as the same player, to a server that continues the journal."""
     server.kill()
     gone = browser.waits_for(f"{STATE}.startsWith('disconnected')")
     type_line(browser, "say a line that waits")
@@ -181,7 +182,7 @@ def count_again(count, browser, server, place):
 
 
 def count_foreign(count, browser, server):
-    """Counts whether a page of another origin may play, and whether one under another name is told."""
+    """Counts whether a page of another origin may play, and whether a page under another name shows a message."""
     browser.open("data:text/html,<p>another page</p>")
     url = server.origin.replace("http", "ws") + "/play"
     made = f"const s = new WebSocket({url!r}); s.onopen = () => go('open'); s.onclose = () => go('closed');"
@@ -193,7 +194,7 @@ def count_foreign(count, browser, server):
 
 
 def count_sent(count, browser):
-    """Counts whether lines are played that a page of another origin has the browser send to the port for Telnet."""
+    """Counts whether lines are executed that a page of another origin makes the browser send to the Telnet port."""
     with WebServer(console=True) as server:
         browser.open(f"{server.origin}/nothing")
         ended = browser.value(f"{SEND}('http://{HOST}:{server.port}/', {SENT})")
@@ -203,7 +204,7 @@ def count_sent(count, browser):
 
 
 def count_both(count, browser, server):
-    """Counts whether one who comes by Telnet is heard in the page, and hears who types there."""
+    """Counts whether the page shows what a Telnet player says, and that player reads what the page's player types."""
     bob = Visit(server.port)
     bob.ask("connect Bob")
     bob.ask(f"say {ASKED}")
@@ -217,7 +218,7 @@ def count_both(count, browser, server):
 
 
 def count_tree(count, browser):
-    """Counts what a screen reader is given: landmarks, a log that is not read as it grows, a name for each control."""
+    """Counts what a screen reader gets: landmarks, a log that is not read as it grows, a name for each control."""
     tree = browser.tree()
     roles = {role for role, _, _ in tree}
     wanted = {"banner", "main", "complementary", "log", "status", "form", "region"}
@@ -260,7 +261,7 @@ def count_phone(count, browser, server):
 
 
 def furnish(browser, server):
-    """Digs a house, in which another talks, and asks a way through it."""
+    """Digs a house in which another player talks, and asks for a way through it."""
     browser.value(by_id("words") + ".open = false")
     for line in SCENE:
         type_line(browser, line)
@@ -276,7 +277,7 @@ def furnish(browser, server):
 
 
 def count_trip(count, browser):
-    """Counts whether a way is gone by one click: to the observatory, and back."""
+    """Counts whether one click walks a way: to the observatory, and back."""
     for line, end in (("route to Observatory", "Observatory #25"), ("route to The Hall", "The Hall #0")):
         type_line(browser, line)
         browser.waits_for("talk.asked.length === 0", 10)
@@ -287,7 +288,7 @@ def count_trip(count, browser):
 
 
 def shoot_desk(browser, folder):
-    """Takes pictures at the widths of a desk, light and dark."""
+    """Takes pictures at the width of a desktop, light and dark."""
     browser.resize(*DESK)
     browser.value("map.home()")
     for scheme in ("dark", "light"):
@@ -302,7 +303,7 @@ def shoot_desk(browser, folder):
 
 
 def play(count, one, server, folder):
-    """Plays in a browser, and counts what holds in each of them."""
+    """Plays in a browser, and counts the facts that hold in both of them."""
     one.resize(*DESK)
     count(f"{one.name}: the page opens", one.open(server.origin) and one.waits_for(ON))
     count_guest(count, one)
@@ -323,7 +324,7 @@ def play(count, one, server, folder):
 
 
 def end_play(count, one, server, place):
-    """What is counted last, since it ends the server."""
+    """Counts the facts that end the server, last."""
     one.open(server.origin)
     one.waits_for(f"{STATE}.startsWith('Ann')")
     count_again(count, one, server, place)
@@ -367,6 +368,7 @@ def firefox(count):
 
 
 def faults(browser):
-    """What the browser said, but for a server that is gone, and for the icon that the policy has it not load."""
+    """Returns the errors of the browser, except for a server that has ended, and for the icon that the policy
+    forbids."""
     known = ("ERR_CONNECTION", "WebSocket connection to", "favicon.ico", "establish a connection to the server")
     return [text for text in browser.said if not any(each in text for each in known)]

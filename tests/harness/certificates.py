@@ -1,22 +1,22 @@
-"""Certificates: a history with a certificate after it, and what the checker says of the two.
+"""Certificates: a history followed by a certificate, and the checker's verdict on the two.
 
-The cases stand in the tables tests/certificates/DOUBT.rows, a file a doubt or a kind of fault. A table is blocks of
-lines, with blank lines between them; lines that begin with `#` are comments. A block is a heading, and below it lines
-that have a mark of two characters:
+The cases are in the tables tests/certificates/DOUBT.rows, a file for each doubt or kind of fault. A table consists of
+blocks of lines, separated by blank lines; lines that begin with `#` are comments. A block is a heading, and below it
+lines that have a mark of two characters:
 
     [HEADING]     a text with a name: a history, a certificate, or both
     HEADING       a case
 
       LINE        a line of the text
-      [HEADING]   all lines of the text with this name, which stands further up
+      [HEADING]   all lines of the text with this name, which comes earlier in the table
     - LINE        a line of the text that is taken out, and
-    + LINE        one that is put in its place; the lines taken out stand side by side in the text, and only once
+    + LINE        one that is put in its place; the lines taken out are adjacent in the text, and occur only once
     = VERDICT     the line that the checker prints: the last of a case
 
 Each line of a text ends with a line feed. Braces hold what is not seen, or is long:
 
     {CR} {SPACE} {7F}   a return, a space, the byte with this hexadecimal number
-    {900 a}             what stands after the space, so many times
+    {900 a}             the text after the space, repeated this many times
     {}                  nothing: the only mark of an empty line
     {CUT}               at the end of the last line: no line feed follows
 """
@@ -36,12 +36,12 @@ UNSEEN = {"": "", "CR": "\r", "SPACE": " "}
 
 
 class Faulty(Exception):
-    """A table is not as the head of this module says."""
+    """A table does not have the form that this module describes."""
 
 
 @dataclass
 class Case:
-    """What the checker reads, and the line that it prints."""
+    """The input of the checker, and the line that it prints."""
 
     given: bytes
     verdict: str
@@ -55,7 +55,7 @@ class Table:
     cases: dict = field(default_factory=dict)
 
     def add(self, heading, lines):
-        """Takes in a block."""
+        """Adds a block."""
         need(heading not in self.texts and heading not in self.cases, f"two blocks are called {heading}")
         need(lines and all(mark in MARKS for mark, _ in lines), f"{heading} has a line without a mark, or none")
         if heading.startswith("["):
@@ -66,7 +66,7 @@ class Table:
             self.cases[heading] = Case(b"".join(self.text(lines)), verdict)
 
     def text(self, lines):
-        """The lines of a text, after its changes."""
+        """Returns the lines of a text, after its changes."""
         need(all(mark != "= " for mark, _ in lines), "there is a verdict above the end of a block")
         text = [line for mark, spelled in lines if mark == "  " for line in self.lines_of(spelled)]
         for out, put in changes(lines):
@@ -74,7 +74,7 @@ class Table:
         return text
 
     def lines_of(self, spelled):
-        """The line that is spelled so, or the lines of the text with this name."""
+        """Returns the line with this spelling, or the lines of the text with this name."""
         if not spelled.startswith("["):
             return [line_of(spelled)]
         need(spelled in self.texts, f"there is no {spelled} further up")
@@ -87,7 +87,7 @@ def need(holds, why):
 
 
 def changes(lines):
-    """The changes of a text, in their order: which lines are taken out, and which are put in their place."""
+    """Returns the changes of a text, in order: the lines taken out, and those put in their place."""
     found, before = [], ""
     for mark, spelled in lines:
         if mark == "- " and before != "- ":
@@ -101,7 +101,7 @@ def changes(lines):
 
 
 def changed(text, out, put):
-    """A text with some lines put in the place of others."""
+    """Returns a text with some lines replaced."""
     places = [at for at in range(len(text)) if text[at : at + len(out)] == out]
     need(len(places) == 1, f"{out} stands in the text {len(places)} times")
     at = places[0]
@@ -109,14 +109,14 @@ def changed(text, out, put):
 
 
 def line_of(spelled):
-    """The bytes of a line."""
+    """Returns the bytes of a line."""
     line = spelled.removesuffix("{CUT}")
     end = "\n" if line == spelled else ""
     return (BRACES.sub(lambda braces: unseen(braces[1]), line) + end).encode("latin-1")
 
 
 def unseen(braced):
-    """What stands for the text in braces."""
+    """Returns the bytes for a text in braces."""
     if braced in UNSEEN:
         return UNSEEN[braced]
     if re.fullmatch("[0-9A-F]{2}", braced):
@@ -127,7 +127,7 @@ def unseen(braced):
 
 
 def cases_of(path):
-    """The cases of a table, by their headings."""
+    """Returns the cases of a table, by their headings."""
     table = Table()
     lines = [line for line in path.read_text().split("\n") if not line.startswith("#")]
     for block in re.split("\n{2,}", "\n".join(lines).strip("\n")):
@@ -137,17 +137,17 @@ def cases_of(path):
 
 
 def given(table, heading):
-    """What the checker reads in a case: `given("free-exits", "by one exit")`."""
+    """Returns the input of a case: `given("free-exits", "by one exit")`."""
     return cases_of(FOLDER / f"{table}.rows")[heading].given
 
 
 def kind_of(verdict):
-    """The first word of a verdict, which tells its status."""
+    """Returns the first word of a verdict, which determines its status."""
     return verdict.split(":")[0]
 
 
 def misjudged(case):
-    """How the checker's line or status differs from the verdict; nothing where they don't."""
+    """Returns how the checker's line or status differs from the verdict, or nothing."""
     status, printed = answer([program("mud_check")], case.given)
     if status != STATUS[kind_of(case.verdict)]:
         return f"the status is {status}, and the line {printed}"
@@ -155,7 +155,7 @@ def misjudged(case):
 
 
 def named_cases(count):
-    """The cases of all tables, each with its name. A table that is faulty counts as one test that failed."""
+    """Returns the cases of all tables, each with its name. A table with a wrong form counts as one failed test."""
     for path in sorted(FOLDER.glob("*.rows")):
         try:
             yield from ((f"{path.stem}: {heading}", case) for heading, case in cases_of(path).items())

@@ -1,7 +1,7 @@
-"""Three checkers, one answer: `mud_check`, page/check.js and tests/check.py, which share no line.
+"""Three checkers, one answer: `mud_check`, page/check.js and tests/check.py, which share no code.
 
 Each judges the tables of tests/certificates, the pairs of examples/checker and many random pairs (harness/pairs.py). A
-part fails where two of them differ, and where one kind of line is met by no random pair: then the pairs have got poor.
+part fails if two of them differ, or if no random pair gives a line of some kind, because the pairs are then too poor.
 """
 import os
 import re
@@ -30,9 +30,8 @@ WANTED = {"accepted", *(f"refused: {doubt}" for doubt in DOUBTS), *(f"unreadable
 
 
 def written(folder, at, pair):
-    """Writes a pair, and gives the words by which a shell has `mud_check` read it: from standard input, if that is
-    split where the pair is, and from two files else.
-    """
+    """Writes a pair, and returns the words by which a shell makes `mud_check` read it: from standard input if that is
+    split between the two texts, and otherwise from two files."""
     given = pair.history + pair.proof
     is_one = check.split(given) == (pair.history, pair.proof)
     texts = {f"{at}": given} if is_one else {f"{at}.history": pair.history, f"{at}.proof": pair.proof}
@@ -43,9 +42,8 @@ def written(folder, at, pair):
 
 
 def proved(pairs):
-    """The lines of `mud_check`; with its status, where that is not the line's. A shell starts it for each pair, which
-    takes half the time of starting it from here.
-    """
+    """Returns the lines of `mud_check`, each with its status if that is not the line's. A shell starts it for each
+    pair, in half the time that Python needs."""
     with tempfile.TemporaryDirectory() as folder:
         runs = [f'"$1" {written(folder, at, pair)}; echo "= $?"\n' for at, pair in enumerate(pairs)]
         Path(folder, "runs").write_text("".join(runs))
@@ -56,7 +54,7 @@ def proved(pairs):
 
 
 def in_page(pairs):
-    """The lines of page/check.js."""
+    """Returns the lines of page/check.js."""
     given = b"".join(b"%d %d\n%b%b" % (len(it.history), len(it.proof), it.history, it.proof) for it in pairs)
     done = subprocess.run([*NODE, "--many"], input=given, capture_output=True)
     if done.stderr:
@@ -65,22 +63,22 @@ def in_page(pairs):
 
 
 def plain(pair):
-    """The line of tests/check.py."""
+    """Returns the line of tests/check.py."""
     return check.verdict(pair.history, pair.proof)
 
 
 def as_read(given):
-    """The pair that standard input holds."""
+    """Returns the pair in standard input."""
     return Pair(*check.split(given))
 
 
 def answers(pairs):
-    """What the three say of each pair."""
+    """Returns the verdicts of all three on each pair."""
     return list(zip(proved(pairs), in_page(pairs), map(plain, pairs), strict=True))
 
 
 def random_pairs(first, last):
-    """The pairs of some seeds."""
+    """Returns the pairs of some seeds."""
     return [pair for seed in range(first, last) for pair in pairs_of(seed, BY_HISTORY)]
 
 
@@ -92,7 +90,7 @@ def kind_of(line):
 
 
 def without_entries(history, first, last):
-    """A history without some of its entries; the others are counted again."""
+    """Returns a history without some of its entries; the others are renumbered."""
     lines = history.split(b"\n")
     del lines[first:last]
     entries = [re.sub(rb"^[0-9]+", b"%d" % version, line) for version, line in enumerate(lines[1:-2], 1)]
@@ -100,7 +98,7 @@ def without_entries(history, first, last):
 
 
 def shorter(pair):
-    """Pairs that are shorter, those first that lack most."""
+    """Returns shorter pairs, the shortest first."""
     count = pair.history.count(b"\n") - 2
     for size in (32, 8, 2, 1):
         for at in range(1, count - size + 2, size):
@@ -114,7 +112,7 @@ def shorter(pair):
 
 
 def shrunk(pair):
-    """A pair of which the checkers still differ, with less in it."""
+    """Returns a smaller pair on which the checkers still differ."""
     for _ in range(MOST_ROUNDS):
         tried = [*shorter(pair)]
         differing = (one for one, lines in zip(tried, answers(tried)) if len(set(lines)) > 1)
@@ -138,12 +136,12 @@ def told(lines, pair):
 
 
 def count_wanted(count, name, pair, verdict, lines):
-    """A test of a pair whose verdict is known."""
+    """Tests a pair whose verdict is known."""
     count(name, set(lines) == {verdict}, f"the verdict is {verdict}; {told(lines, pair)}")
 
 
 def known(count):
-    """The pairs whose verdicts are known, each with a name and its verdict."""
+    """Returns the pairs whose verdicts are known, each with a name and its verdict."""
     for name, case in certificates.named_cases(count):
         yield name, as_read(case.given), case.verdict
     for line in (EXAMPLES / "verdicts.txt").read_text().splitlines():
@@ -152,7 +150,7 @@ def known(count):
 
 
 def count_random(count, name, pairs, met):
-    """A test that the checkers agree on random pairs. Which kinds of lines they met is added."""
+    """Tests that the checkers agree on random pairs. Adds the kinds of lines that they gave."""
     found = answers(pairs)
     met.update(kind_of(line) for _, _, line in found)
     differing = [pair for pair, lines in zip(pairs, found) if len(set(lines)) > 1]
@@ -177,7 +175,7 @@ def compare(count):
 
 
 def of_changes(*changes):
-    """A history of these changes, with a certificate of where the first player stands then."""
+    """Returns a history of these changes, with a certificate of the first player's place at its end."""
     lines = [f"{at} 1 {change}" for at, change in enumerate(changes, 1)]
     history = "\n".join(["mud history 2", *lines, f"end {len(lines)}", ""])
     proof = ["mud proof 2", f"version {len(lines)}", "member #1 from #0", "labels #0:0/0", "walk nothing"]
@@ -185,7 +183,7 @@ def of_changes(*changes):
 
 
 def full_worlds():
-    """Histories that end with a change for which there is just room, or just none."""
+    """Returns histories that end with a change for which there is just enough room, or just too little."""
     for left in range(4):
         things = ['make #1 "x"'] * (check.LAST - 1 - left)
         both = 'dig #1 new "x" out "x" back "x"'
@@ -196,7 +194,7 @@ def full_worlds():
 
 
 def large():
-    """Pairs at the limits of a world and of a history, with their verdicts."""
+    """Returns pairs at the limits of a world and of a history, with their verdicts."""
     yield from full_worlds()
     said = ["say #1 hi"] * check.MOST_ENTRIES
     yield "as many changes as there may be", of_changes(*said), "accepted"
@@ -210,7 +208,8 @@ def large():
 
 
 def batch(first, last):
-    """Judges the pairs of some seeds: how many they are, which differ, and which kinds of lines were met."""
+    """Judges the pairs of some seeds. Returns their number, those that differ, and the kinds of lines that they
+    gave."""
     pairs = random_pairs(first, last)
     found = answers(pairs)
     differing = [pair for pair, lines in zip(pairs, found) if len(set(lines)) > 1]
@@ -218,7 +217,7 @@ def batch(first, last):
 
 
 def batches(first, last):
-    """What is found of each batch of the seeds, several at once."""
+    """Returns the result of each batch of the seeds, several at once."""
     step = BATCH // BY_HISTORY
     begins = range(first, last, step)
     with ProcessPoolExecutor() as several:
@@ -242,7 +241,7 @@ def compare_many(count, pairs=MANY, seed=IN_GATE):
 
 @part("another-checker", "a program of yours says what the three say", on_demand=True, words="COMMAND [WORD..]")
 def judge_another(count, *command):
-    """It reads a pair from standard input, and its line and its status are compared."""
+    """Judges with another checker, which reads a pair from standard input; its line and its status are compared."""
 
     def fault_of(one):
         pair, verdict = one
@@ -260,7 +259,7 @@ def judge_another(count, *command):
 
 
 def runs(words, given=b""):
-    """What each of the three programs prints, and its status, by their words."""
+    """Returns the output and the status of each of the three programs, by their words."""
     programs = [[program("mud_check")], NODE, [sys.executable, f"{TOP}/tests/check.py"]]
     done = [subprocess.run([*one, *words], input=given, capture_output=True) for one in programs]
     return {(it.returncode, it.stdout) for it in done}
@@ -272,7 +271,7 @@ for proof in part[1-9]*; do "$0" part0 "$proof"; done
 
 
 def count_record(count, folder):
-    """Tests of a record with several certificates, cut for `mud_check` as docs/CHECKER.md says, and read by node."""
+    """Tests a record with several certificates, cut for `mud_check` as docs/CHECKER.md says, and read by node."""
     given = (EXAMPLES / "01-route.txt").read_bytes()
     _, proof = check.split(given)
     record = os.path.join(folder, "record.txt")
@@ -285,7 +284,7 @@ def count_record(count, folder):
 
 
 def count_page(count):
-    """Tests that docs/CHECKER.md has that way to cut a record, and each example with its line."""
+    """Tests that docs/CHECKER.md shows that way to cut a record, and each example with its line."""
     page = Path(TOP, "docs", "CHECKER.md").read_text()
     missing = [line for line in CUT.replace('"$0"', "mud_check").splitlines() if line not in page]
     count("the recipe of docs/CHECKER.md", not missing, f"it has not {missing}")

@@ -1,6 +1,5 @@
-"""The console of a server: `stop`, or the end of what is typed, ends it in order. Each session is told so last, and the
-history is printed.
-"""
+"""The console of a server: `stop`, or the end of its input, ends the server in order. Each session gets that as its
+last line, and the history is printed."""
 import threading
 
 from harness.journal import ANN, FIRST, Place, ended
@@ -12,7 +11,7 @@ MILLION = 1_000_000
 NOT_KNOWN = b"mud_serve: the console knows one word: stop\n"
 STOPS = b"(server stops)"
 
-# What is shown; what is typed, and whether the input ends behind it; how many lines are not understood.
+# The case; its input, and whether the input ends after it; the number of lines that are not understood.
 TYPED = [
     ("stop", b"stop\n", False, 0),
     ("stop with a return", b"stop\r\n", False, 0),
@@ -29,7 +28,7 @@ def listening(*words):
 
 
 def visited(port):
-    """A client who has come in as Ann and said something."""
+    """Returns a client that has connected as Ann and said something."""
     client = Client(port)
     for line in (b"connect Ann", b"say hi"):
         client.send(line)
@@ -39,13 +38,13 @@ def visited(port):
 
 
 def last_line(client):
-    """The last line that a client reads; None where more comes behind it."""
+    """Returns the last line of a client, or None if more follows."""
     line, then = client.line(), client.line()
     return line if then is None and not client.kept else None
 
 
 def type_all(server, text, is_ended):
-    """Types it, the last piece of a text without a line end apart."""
+    """Types the text, with the last piece without a line end apart."""
     server.type(text)
     if is_ended:
         server.process.stdin.close()
@@ -54,7 +53,7 @@ def type_all(server, text, is_ended):
 
 
 def why_going_on(text, is_ended, wrong_lines):
-    """What went otherwise where this is typed while somebody is there; nothing where all ends in order."""
+    """Returns what went wrong if this is typed while a player is there, or nothing if all ends in order."""
     with listening() as server:
         client = visited(server.port)
         type_all(server, text, is_ended)
@@ -66,7 +65,7 @@ def why_going_on(text, is_ended, wrong_lines):
 
 
 def why_unmoved():
-    """What went otherwise where nobody ever comes; nothing where the server ends."""
+    """Returns what went wrong if no client ever connects, or nothing if the server ends."""
     with listening() as server:
         server.type(b"stop\n")
         given = server.end()
@@ -74,7 +73,7 @@ def why_unmoved():
 
 
 def why_unkept():
-    """What went otherwise where a server with a journal and a total is stopped; nothing where all is kept."""
+    """Returns what went wrong if a server with a journal and a total is stopped, or nothing if everything is kept."""
     with Place() as place, place.server("--total", "9", console=True) as server:
         client = visited(server.port)
         server.type(b"stop\n")
@@ -83,7 +82,7 @@ def why_unkept():
 
 
 def why_waiting():
-    """What went otherwise where the total is reached while nothing is typed; nothing where the server ends."""
+    """Returns what went wrong if the total is reached while nothing is typed, or nothing if the server ends."""
     with listening("--total", "1") as server:
         client = visited(server.port)
         client.send(b"quit")
@@ -92,7 +91,7 @@ def why_waiting():
 
 
 def why_held():
-    """What went otherwise where a client sends without end and reads nothing; nothing where the server ends."""
+    """Returns what went wrong if a client sends without end and reads nothing, or nothing if the server ends."""
     with listening() as server:
         client = Client(server.port, seconds=1)
         client.send(b"connect Ann")
@@ -106,7 +105,7 @@ def why_held():
 
 
 def flood(client):
-    """Sends until nothing is taken any more."""
+    """Sends until the server takes no more."""
     try:
         while True:
             client.give(b"look\r\n" * 10_000)

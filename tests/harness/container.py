@@ -1,4 +1,4 @@
-"""A release in a container, as docs/INSTALL.md says: it is built, plays, is stopped in order, and goes on."""
+"""A release in a container, as docs/INSTALL.md says: it is built, plays, stops in order, and continues."""
 import contextlib
 import os
 import re
@@ -18,7 +18,7 @@ from harness.web import free_port
 
 NEEDED = ("podman", "unshare", "nsenter")
 FROM = re.compile(r"^FROM (\S+/\S+) AS", re.M)
-# What podman gives a container of limits where it may not raise them, and how an image is built without its help.
+# The limits of a container if podman may not raise them, and the way to build an image without its help.
 RUN = ["--ulimit", "nofile=1024:1024", "--ulimit", "nproc=4096:4096"]
 BUILD = ["--isolation=chroot", "--network=host", "--ulimit", "nofile=1024:1024"]
 UNIFIED = "/sys/fs/cgroup/unified"
@@ -42,13 +42,13 @@ class Podman:
             subprocess.run([*self.enter, "umount", UNIFIED], check=False, stderr=subprocess.DEVNULL)
 
     def __call__(self, *words, **how):
-        """The status of podman with these words, and what it says."""
+        """Returns the status and the output of podman with these words."""
         how = {"stdout": subprocess.PIPE, "stderr": subprocess.STDOUT, "timeout": SECONDS, **how}
         ran = subprocess.run([*self.enter, "podman", *self.store, *words], check=False, **how)
         return ran.returncode, (ran.stdout or b"").decode(errors="replace")
 
     def says(self, *words):
-        """What it says to these words, but for its errors."""
+        """Returns its output for these words, without its errors."""
         return self(*words, stderr=subprocess.DEVNULL)[1].strip()
 
     def close(self):
@@ -58,8 +58,7 @@ class Podman:
 
 
 def has_base(podman, file):
-    """Has the image there that the Containerfile begins with: from its registry, or, where that can't be reached, a
-    Debian that stands for it."""
+    """Gets the base image of the Containerfile from its registry, or, if no registry answers, a Debian in its place."""
     (image,) = FROM.findall(read(file).decode())
     if podman("pull", image)[0] != 0:
         print(f"container: {image} can't be pulled; the Debian of the part `debian` stands for it", flush=True)
@@ -68,7 +67,7 @@ def has_base(podman, file):
 
 
 def commands(ports):
-    """The commands of docs/INSTALL.md, each as words, with these ports of this machine for those that it publishes."""
+    """Returns the commands of docs/INSTALL.md, each as words, with these ports of this machine as published ones."""
     text = block("container").replace("\\\n", " ")
     for ours, theirs in ports:
         text = text.replace(f"127.0.0.1:{theirs}:{theirs}", f"127.0.0.1:{ours}:{theirs}")
@@ -76,7 +75,7 @@ def commands(ports):
 
 
 def come(port, name):
-    """A player who came in by this name once the server greets, and what he was answered."""
+    """Connects a player by this name once the server greets. Returns the player and the answer."""
     until = time.monotonic() + SECONDS
     while time.monotonic() < until:
         with contextlib.suppress(OSError):
@@ -89,14 +88,14 @@ def come(port, name):
 
 
 def count_image(count, podman):
-    """The image: small, and without root."""
+    """Tests that the image is small, and without root."""
     user, size = podman.says("image", "inspect", "--format", "{{.User}} {{.Size}}", "seamountcup").split()
     count("container: user of the image", user == "65532:65532", user)
     count("container: size of the image", int(size) < MOST_BYTES, size)
 
 
 def count_rights(count, podman):
-    """What the server may do: nothing but write to its volume and a folder in memory."""
+    """Tests the rights of the server: it writes only to its volume and to a folder in memory."""
     status = podman.says("exec", "world", "busybox", "cat", "/proc/1/status")
     found = dict(line.split(":\t") for line in status.splitlines() if line.startswith(("Uid", "CapEff", "Name")))
     count("container: not root", found["Uid"].split() == ["65532"] * 4, found)
@@ -107,7 +106,7 @@ def count_rights(count, podman):
 
 
 def count_stop(count, podman, ann):
-    """Who plays is told that the server stops, and it ends well and soon."""
+    """Tests that players read that the server stops, and that it ends well and soon."""
     began = time.monotonic()
     podman("stop", "world")
     took, told = time.monotonic() - began, []
@@ -119,7 +118,7 @@ def count_stop(count, podman, ann):
 
 
 def count_container(count, podman, port, web_port, run):
-    """A container is run, plays, is stopped, and goes on, also as a new one."""
+    """Tests that a container runs, plays, stops, and continues, also as a new one."""
     ann, came = come(port, "Ann")
     bob, _ = come(port, "Bob")
     bob.send(b"say Hello, Ann!")

@@ -1,8 +1,7 @@
 """A server with a journal is killed while many play, by Telnet and on the web, again and again. In every second round
-what stands behind what was synced is then cut at any byte and has holes of zeros, as a crash of the system may leave
-it. Whatever anybody was told stands in the journal then: each version that was named, with its text. The next server
-goes on from it.
-"""
+the bytes after the synced part are then cut at any byte and get holes of zeros, as a crash of the system may leave
+them. Every version that a client read about must then be in the journal, with its text. The next server continues the
+journal."""
 import os
 import random
 import re
@@ -19,14 +18,14 @@ from harness.web import WebServer
 REPLY = re.compile(rb"\[(\d+)\] said")
 HEARD = re.compile(rb'\((\d+)\) \w+ says, "(.*)"')
 NAMED = re.compile(rb"[\[(](\d+)[\])] ")
-# How long a round lasts, in seconds; how many lines a client sends at once.
+# The length of a round in seconds; the number of lines that a client sends at once.
 ROUND_SECONDS, BURSTS = (0.3, 1.0), (1, 3)
-# How long a hole is that a crash leaves, and how many zeros stand at the end.
+# The length of a hole that a crash leaves, and the number of zeros at the end.
 HOLE_BYTES, ZEROS = 8, (0, 0, 100, 5000)
 
 
 class Told:
-    """What was told: of each version that was named, what was said in it, or None where that was not told."""
+    """The versions that clients read about, each with its text, or None if no text was read."""
 
     def __init__(self):
         self.texts, self.lock = {}, threading.Lock()
@@ -36,12 +35,12 @@ class Told:
             self.texts[version] = text or self.texts.get(version)
 
     def lost(self, entries):
-        """The versions that are not among the entries as they were told."""
+        """Returns the versions that the entries lack, or have with another text."""
         return [version for version, text in self.texts.items() if not stands(entries, version, text)]
 
 
 def stands(entries, version, text):
-    """Whether there is such a version, with this text if it was told."""
+    """Returns whether there is such a version, with this text if one was read."""
     if version > len(entries):
         return False
     number, _, kind, *rest = entries[version - 1].split(b" ", 4)
@@ -49,7 +48,7 @@ def stands(entries, version, text):
 
 
 class Player(threading.Thread):
-    """A client that says things, some at once, and notes what it is told, until its connection ends."""
+    """A client that says things, some at once, and notes what it reads, until its connection ends."""
 
     def __init__(self, client, name, told):
         super().__init__(daemon=True)
@@ -64,7 +63,7 @@ class Player(threading.Thread):
         self.client.send_all([b"say %s" % text for text in texts])
 
     def note(self, line):
-        """Notes what a line tells."""
+        """Notes the version in a line."""
         if reply := REPLY.fullmatch(line):
             self.told.add(int(reply[1]), self.unanswered.pop(0))
         elif heard := HEARD.fullmatch(line):
@@ -85,14 +84,13 @@ class Player(threading.Thread):
 
 
 def entries_of(text):
-    """The whole lines of a journal's entries, before the first zero byte."""
+    """Returns the complete lines of a journal's entries, before the first zero byte."""
     return text.partition(b"\0")[0].split(b"\n")[1:-1]
 
 
 def play_and_kill(place, clients, told, environment):
-    """A round: a server goes on, the clients play, every second one on the web, and it is killed. Answers why it did
-    not start, or nothing.
-    """
+    """Plays a round: a server continues the journal, the clients play, every second one on the web, and it is killed.
+    Returns why it did not start, or nothing."""
     with WebServer("--journal", place.path, environment=environment) as server:
         if server.port is None:
             return f"it does not start: {server.said()}"
@@ -108,9 +106,7 @@ def play_and_kill(place, clients, told, environment):
 
 
 def cut(place, note):
-    """Cuts the journal at any byte behind what was synced last, puts zeros in the place of some bytes there, and adds
-    some.
-    """
+    """Cuts the journal at any byte after the synced part, replaces some bytes there by zeros, and appends some."""
     synced, text = int(read(note) or 0), place.text()
     left = bytearray(text[:random.randint(synced, len(text))] + bytes(random.choice(ZEROS)))
     for at in range(synced, len(left), HOLE_BYTES):
@@ -121,7 +117,7 @@ def cut(place, note):
 
 
 def why_lost(place, at, clients, told):
-    """What went otherwise in a round; nothing where all that was told is there."""
+    """Returns what went wrong in a round, or nothing if every version that was read is there."""
     note = os.path.join(place.folder.name, "note")
     environment = {"LD_PRELOAD": library("note_syncs"), "SYNC_NOTE": note} if at % 2 else {}
     if why := play_and_kill(place, clients, told, environment):
@@ -133,7 +129,7 @@ def why_lost(place, at, clients, told):
 
 
 def why_no_end(place):
-    """What went otherwise where the last server is stopped; nothing where it prints its journal."""
+    """Returns what went wrong if the last server is stopped, or nothing if it prints its journal."""
     with place.server(console=True) as server:
         server.type(b"stop\n")
         given = server.end()
@@ -141,7 +137,7 @@ def why_no_end(place):
 
 
 def crashes(count, rounds, clients):
-    """So many rounds over one journal, and an end in order."""
+    """Plays this many rounds over one journal, and ends in order."""
     told = Told()
     with Place() as place:
         for at in range(rounds):

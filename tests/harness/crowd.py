@@ -1,7 +1,7 @@
-"""Many clients play at once with one server, each at its pace. What each of them reads is judged by the history that
-was printed, and some of the certificates that they got are checked.
+"""Many clients play at once with one server, each at its own pace. The printed history judges the output of each, and
+some of the certificates that they got are checked.
 
-Each client sends lines at random: it looks, talks, walks, digs, makes, gives, locks, asks the way. After each of
+Each client sends lines at random: it looks, talks, walks, digs, makes, gives, locks, asks for the way. After each of
 them it leaves with a chance of one in a hundred, and comes again. With 64 clients, one more is sent away.
 """
 import random
@@ -24,12 +24,12 @@ WAYS = ["north", "south", "east", "west", "up", "down"]
 PLACES = ["Library", "Vault", "Attic", "Garden", "Long Hall"]
 LONGEST = 20
 BAD = ["xyzzy", "take", "put lamp", "drop #999999999", "route", "proof look", "@lock me with (", "go #1"]
-# How many proofs are checked, how many clients a server takes, how many faults are shown.
+# The number of proofs checked, of clients that a server admits, and of faults shown.
 PROOFS, MOST, SHOWN_FAULTS = 100, 64, 5
 
 
 class Talker:
-    """A player by name, who gives lines at random and guesses the numbers of objects."""
+    """A named player that gives lines at random and guesses the numbers of objects."""
 
     def __init__(self, seed):
         self.random = random.Random(seed)
@@ -51,7 +51,7 @@ class Talker:
         return self.one([one, f"{one} || me", f"{one} && {other}", f"!({one} || {other})"])
 
     def line(self):
-        """A line at random: of the kinds, each as often as the number before it says."""
+        """Returns a random line; the number before each kind is its weight."""
         one, way, thing, number, name = self.one, self.one(WAYS), self.thing(), self.number(), self.one(self.names)
         kinds = [
             (12, ["look", "l", f"look {thing}", "look at me", f"look {number}", "look here"]),
@@ -66,6 +66,8 @@ class Talker:
             (3, [f"@key {thing}", f"@cost {way} is {self.random.randrange(12)}", "@cost here is 3"]),
             (8, [f"route to {number}", f"route to {one(PLACES)}", f"proof route to {number}"]),
             (4, [f"meet me, {name}", f"proof meet me, {name}, {one(self.names)}"]),
+            (2, [f"@rename {thing} to {one(THINGS)},{one(WAYS)}", f"@rename me to {name}", f"@recycle {number}"]),
+            (1, [f"@dig {way} to {number}", f"@dig {way}|{one(WAYS)} to here", f"@recycle {thing}"]),
             (1, [f"connect {name}"]),
             (2, BAD),
         ]
@@ -73,7 +75,7 @@ class Talker:
 
 
 class Crowd:
-    """Clients of one server, and the sessions that they had. They come in the ways that `dials` has, by turns."""
+    """Clients of one server, and their sessions. They alternate between the ways of `dials`."""
 
     def __init__(self, server, seconds, pace, dials=(Client,)):
         self.server, self.pace, self.dials = server, pace, dials
@@ -81,7 +83,7 @@ class Crowd:
         self.sessions = []
 
     def visit(self, talker, dial):
-        """One visit: a player comes, sends lines, and leaves by chance or where the time is over."""
+        """Plays one visit: a player connects, sends lines, and leaves by chance or when the time is over."""
         visit = Visit(self.server.port, dial)
         self.sessions.append(visit.session)
         visit.ask(f"connect {talker.name}")
@@ -93,7 +95,7 @@ class Crowd:
         visit.end()
 
     def play(self, seed):
-        """One client after the other, until the time is over; what went wrong, as texts."""
+        """Plays one visit after another until the time is over. Returns what went wrong, as texts."""
         talker = Talker(seed)
         try:
             while time.monotonic() < self.until:
@@ -103,7 +105,7 @@ class Crowd:
         return []
 
     def play_all(self, count):
-        """All clients at once. Answers what went wrong, as texts, and whether one more client is sent away."""
+        """Plays all clients at once. Returns what went wrong, as texts, and whether one more client is sent away."""
         with ThreadPoolExecutor(count) as threads:
             playing = [threads.submit(self.play, seed) for seed in range(count)]
             time.sleep(min(1, (self.until - time.monotonic()) / 2))
@@ -111,19 +113,19 @@ class Crowd:
             return [fault for one in playing for fault in one.result()], is_full
 
     def is_sent_away(self):
-        """Whether one more client than there may be hears that."""
+        """Returns whether a client beyond the limit is told so."""
         client = Client(self.server.port)
         return client.line() == SERVER_FULL.encode() and client.line() is None
 
     def finish(self, total):
-        """Makes sessions until the server ends by itself; answers its status and what it printed."""
+        """Makes sessions until the server ends by itself. Returns its status and its output."""
         for _ in range(len(self.sessions), total):
             Visit(self.server.port).end()
         return self.server.end(60)
 
 
 def judge_crowd(count, sessions, history):
-    """Counts what the sessions read, and the certificates that they got."""
+    """Counts the output of the sessions, and the certificates that they got."""
     faults, proofs = judge(history, sessions)
     some = random.Random(0).sample(proofs, min(PROOFS, len(proofs)))
     wrong = refused(history.encode(), [proof.encode() for proof in some])
@@ -137,9 +139,8 @@ def judge_crowd(count, sessions, history):
 
 
 def count_crowd(count, clients, seconds, pace, words=(), is_on_web=False):
-    """Has a crowd play, every second of them on the web if it is so, and counts how it went; answers the history that
-    was printed.
-    """
+    """Makes a crowd play, every second client on the web if asked, and counts the results. Returns the printed
+    history."""
     total = clients * LONGEST
     words = ["--total", str(total), *words]
     with WebServer(*words) if is_on_web else Server(program("mud_serve"), words) as server:

@@ -1,6 +1,5 @@
-"""mud_check gets a history and a certificate that it accepts, cut after each of their bytes but the last. Each cut must
-be found: in the history's first line, in the rest of the history, or in the line of the certificate where it is.
-"""
+"""mud_check reads a history and a certificate that it accepts, cut after each of their bytes but the last. It must find
+each cut: in the history's first line, in the rest of the history, or in the line of the certificate where it is."""
 import subprocess
 
 from harness.parts import part
@@ -11,7 +10,7 @@ SECONDS = 20
 
 
 def wanted(history, proof, cut):
-    """The status and the verdict on the first bytes of both, as many as `cut`."""
+    """Returns the status and the verdict for the first `cut` bytes of both."""
     if cut == len(history) + len(proof):
         return 0, b"accepted\n"
     if cut <= history.index(b"\n"):
@@ -22,7 +21,7 @@ def wanted(history, proof, cut):
 
 
 def faults_of(history, proof):
-    """What is wrong, as texts."""
+    """Returns what is wrong, as texts."""
     text, faults = history + proof, []
     for cut in range(len(text) + 1):
         ran = subprocess.run([program("mud_check")], input=text[:cut], capture_output=True, timeout=SECONDS)

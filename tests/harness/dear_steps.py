@@ -1,7 +1,5 @@
-"""The dearest steps that were found in the largest worlds: none holds the others up for long. A world is built by the
-lines of one player. Then one line is given many times, and what that adds to the processor time of a script is shared
-out among them.
-"""
+"""The most expensive steps known in the largest worlds: none delays the others for long. The lines of one player build
+a world. Then one line is repeated many times, and the added processor time of the script is divided by their number."""
 import resource
 import subprocess
 from typing import Callable, NamedTuple
@@ -9,38 +7,38 @@ from typing import Callable, NamedTuple
 from harness.parts import part
 from harness.programs import program
 
-# How many things a world has, how long a script may take, in seconds, and how often a row is tried at most.
+# The number of things in a world, the seconds that a script may take, and the most attempts for a row.
 THINGS, SECONDS, TRIES = 7_990, 60, 3
-# What long names begin with; a name has 60 bytes at most.
+# The beginning of long names; a name has at most 60 bytes.
 STEM = "a" * 58
 
 THING = "@create t"
 
 
 def text_of(lines):
-    """The input of a script."""
+    """Returns the input of a script."""
     return "".join(f"{line}\n" for line in lines).encode()
 
 
 def sixteen(atom, last=""):
-    """A key of as many atoms as there may be."""
+    """Returns a key with as many atoms as possible."""
     return " && ".join([atom] * 15 + [last or atom])
 
 
 def many_things():
-    """Many things of one name, which one carries: #2, #3 and so on."""
+    """Builds many carried things with one name: #2, #3 and so on."""
     return [THING] * THINGS
 
 
 def in_one_another():
-    """Things in one another, of which the outermost is carried: the first is #2, and is in #3, which is in #4."""
+    """Builds nested things whose outermost is carried: the first is #2, in #3, which is in #4, and so on."""
     return many_things() + [f"put #{n} in #{n + 1}" for n in range(2, THINGS + 1)]
 
 
 def locked_by_questions():
-    """An exit whose key asks sixteen times for a thing whose key asks so, for one whose key asks so for the innermost
-    thing. The key of the room behind it does the same, but its last question is not met.
-    """
+    """Builds an exit whose key asks sixteen times for a thing, whose key asks sixteen times for one, whose key asks
+    sixteen times for the innermost thing. The key of the room behind it does so too, but its last question is not
+    met."""
     room, way, thing = THINGS + 2, THINGS + 3, THINGS + 4
     asked = f"?#{thing + 2}"
     return in_one_another() + [
@@ -55,18 +53,18 @@ def locked_by_questions():
 
 
 def asked_by_all():
-    """A thing, #2, for which the keys of all others ask, sixteen times each."""
+    """Builds a thing, #2, for which the keys of all others ask, sixteen times each."""
     return many_things() + [f"@lock #{n} with {sixteen('?#2')}" for n in range(3, THINGS + 2)]
 
 
 def asked_in_a_row():
-    """A thing, #2, for which one key asks, for whose object all others ask."""
+    """Builds a thing, #2, for which one key asks, while all other keys ask for the object of that key."""
     first = [f"@lock #3 with {sixteen('?#2')}"]
     return many_things() + first + [f"@lock #{n} with {sixteen('?#3')}" for n in range(4, THINGS + 2)]
 
 
 def asked_by_sixteen():
-    """A thing, #2, for which the keys of sixteen things ask, for each of which the keys of all others ask."""
+    """Builds a thing, #2, for which the keys of sixteen things ask. The keys of all others ask for each of these."""
     middle = range(3, 19)
     first = [f"@lock #{n} with ?#2" for n in middle]
     key = " && ".join(f"?#{n}" for n in middle)
@@ -74,32 +72,30 @@ def asked_by_sixteen():
 
 
 def named(end):
-    """Many things of four long names each, which differ in the byte before this end; another byte stands there in the
-    name of the last thing, and one more behind it.
-    """
+    """Builds many things with four long names each, which differ in the byte before this end. The last thing's names
+    have another byte there, and one more after it."""
     names = ",".join(STEM + last + end for last in "wxyz")
     return [f"@create {names}"] * (THINGS - 1) + [f"@create {STEM}bc"]
 
 
 def long_names():
-    """Names that are as long as what is looked up, but for the last thing's."""
+    """Builds names as long as the text that is looked up, except the last thing's."""
     return named("")
 
 
 def longer_names():
-    """Names that have one byte more than what is looked up."""
+    """Builds names one byte longer than the text that is looked up."""
     return named("c")
 
 
 def many_exits():
-    """A room with many exits of one name."""
+    """Builds a room with many exits of one name."""
     return ['@dig e to "X"'] + ["@dig e to #2"] * (THINGS - 10)
 
 
 class Row(NamedTuple):
-    """What is shown; its world; the line that is given again and again, and what it is answered; the most that it may
-    take, in seconds of processor time, some times what it takes on an idle machine; and how often it is given.
-    """
+    """The case; its world; the repeated line and its answer; the most processor time it may take, in seconds, which is
+    several times that on an idle machine; and the number of repetitions."""
 
     what: str
     world: Callable
@@ -122,15 +118,15 @@ ROWS = [
     Row("a recycling", in_one_another, f"@recycle #{THINGS + 1}", "That is in use."),
     Row("a name of many things", many_things, "drop t", "Which one do you mean?"),
     Row("a name of many exits", many_exits, "go e", "Which one do you mean?"),
-    # Each name is compared with all others, and with none of them twice: as a whole where they are as long, else as
-    # the beginning of a longer one.
+    # Each name is compared with all others, and with none of them twice: whole if they have equal lengths, and
+    # otherwise as a prefix of the longer one.
     Row("sixteen long names", long_names, f"@lock #2 with {NAMED}", f"locked #2 with {MEANT}"),
     Row("sixteen beginnings of names", longer_names, f"@lock #2 with {NAMED}", f"locked #2 with {MEANT}"),
 ]
 
 
 def played(lines):
-    """What a script writes last, and its processor time."""
+    """Returns the last line of a script's output, and its processor time."""
     before = resource.getrusage(resource.RUSAGE_CHILDREN)
     command = [program("mud_serve"), "script"]
     told = subprocess.run(command, input=text_of(lines), stdout=subprocess.PIPE, timeout=SECONDS, check=True).stdout
@@ -139,9 +135,8 @@ def played(lines):
 
 
 def why_wrong(row):
-    """Why a step is answered wrong or takes too long; nothing where it is right. Where it takes too long it is tried
-    again, since a busy machine charges a program for what others do.
-    """
+    """Returns why a step has a wrong answer or takes too long, or nothing. A step that takes too long is tried again,
+    because a busy machine charges a program for the work of others."""
     world = row.world()
     for _ in range(TRIES):
         _, alone = played(world)

@@ -24,14 +24,14 @@ BASE = f"{CACHE}/seamountcup-debian-{SUITE}"
 SECONDS, RESTART_SECONDS, STOP_SECONDS = 60, 30, 5
 GREETING, STOPS = "Welcome. Type: connect NAME", "(server stops)"
 JOURNAL = "/var/lib/seamountcup/world.journal"
-# What a package made it so before: a number smaller than any.
+# The number of an earlier package: smaller than any.
 EARLIER = "0.0.1"
-# RFC 6455, section 1.3: a key, and what it is answered by.
+# RFC 6455, section 1.3: a key, and its answer.
 KEY, ACCEPT = "dGhlIHNhbXBsZSBub25jZQ==", "s3pPLMBiTxaQ9kYGzzhZRbK+xOo="
 
 
 def base():
-    """The folder of a Debian, which is made where it isn't there: that takes minutes, and a network."""
+    """Returns the folder of a Debian. Makes it if it does not exist: that takes minutes, and a network."""
     if os.geteuid() != 0 or (missing := [name for name in NEEDED if not shutil.which(name)]):
         raise Skipped(f"it wants root, and {', '.join(NEEDED)}")
     if not os.path.isdir(BASE):
@@ -43,7 +43,7 @@ def base():
 
 
 def block(name):
-    """The lines of docs/INSTALL.md that are played by this name."""
+    """Returns the lines of docs/INSTALL.md that are played by this name."""
     return re.search(rf"^<!-- played: {name} -->\n```sh\n(.*?)^```$", text_of("docs/INSTALL.md"), re.M | re.S)[1]
 
 
@@ -62,7 +62,7 @@ class Machine:
             self.put(path, f"/root/{os.path.basename(path)}")
 
     def systemd(self):
-        """The number of its process 1, once that is systemd."""
+        """Returns the number of its process 1, once that is systemd."""
         until = time.monotonic() + SECONDS
         while time.monotonic() < until:
             number = self.process.pid
@@ -78,17 +78,17 @@ class Machine:
         self.sh(f"cat > '{there}'", read(path))
 
     def sh(self, script, given=b""):
-        """The status of a script in it, and what it says. It stands in /root."""
+        """Returns the status and the output of a script in it, run in /root."""
         words = [*self.enter, "sh", "-e", "-c", script]
         ran = subprocess.run(words, input=given, stdout=subprocess.PIPE, stderr=subprocess.STDOUT, timeout=SECONDS)
         return ran.returncode, ran.stdout.decode(errors="replace")
 
     def says(self, script):
-        """What a script says, without the last line end."""
+        """Returns the output of a script, without the last line end."""
         return self.sh(script)[1].rstrip("\n")
 
     def is_active(self, seconds=0):
-        """Whether the server runs, or does so within some seconds."""
+        """Returns whether the server runs within some seconds."""
         until = time.monotonic() + seconds
         while (said := self.says("systemctl is-active mud_serve || true")) != "active" and time.monotonic() < until:
             time.sleep(0.5)
@@ -106,7 +106,7 @@ class Machine:
 
 
 class Player:
-    """Somebody who plays by the `telnet` of a machine, from the moment that the server greets him."""
+    """A player by the `telnet` of a machine, from the moment of the greeting."""
 
     def __init__(self, machine):
         words, how = [*machine.enter, "telnet", "127.0.0.1", "4000"], {"stdin": subprocess.PIPE}
@@ -125,7 +125,7 @@ class Player:
         self.process.stdin.flush()
 
     def reads(self, wanted, seconds=10):
-        """Whether a line that is this, or ends so, comes within some seconds. Lines before it are dropped."""
+        """Returns whether a line that ends so comes within some seconds. Drops lines before it."""
         until = time.monotonic() + seconds
         while True:
             *lines, self.kept = self.kept.split(b"\n")
@@ -139,7 +139,7 @@ class Player:
             self.kept += some
 
     def comes(self, name, number):
-        """Whether he is welcomed by this name, as the player of this number."""
+        """Returns whether the server welcomes this name, as the player of this number."""
         self.types(f"connect {name}")
         return self.reads(f"] welcome #{number}")
 
@@ -151,16 +151,16 @@ class Player:
 
 @contextlib.contextmanager
 def players(machine, count=1):
-    """So many players of a machine."""
+    """Returns this number of players of a machine."""
     with contextlib.ExitStack() as stack:
         yield [stack.enter_context(contextlib.closing(Player(machine))) for _ in range(count)]
 
 
-# ---- what is looked at
+# ---- checks
 
 
 def count_played(count, name, machine, numbers=(2, 3)):
-    """Two people meet in one room: they are those who have these numbers."""
+    """Tests that two players with these numbers meet in one room."""
     with players(machine, 2) as (ann, bob):
         came = ann.comes("Ann", numbers[0]), bob.comes("Bob", numbers[1])
         ann.types("say Hello, Bob!")
@@ -171,7 +171,7 @@ def count_played(count, name, machine, numbers=(2, 3)):
 
 
 def count_told(count, name, machine, script):
-    """Whoever plays while this is done is told that the server stops, and soon."""
+    """Tests that players read, and soon, that the server stops when this is done."""
     with players(machine) as (ann,):
         is_known = ann.comes("Ann", 2)
         began = time.monotonic()
@@ -185,13 +185,13 @@ def count_told(count, name, machine, script):
 
 
 def count_kept(count, name, machine, others):
-    """The world is as it was: the journal begins with all that it had."""
+    """Tests that the world is as it was: the journal begins with everything that it had."""
     kept = machine.says(f"cat {JOURNAL}")
     count(f"{name}: the world is there", kept.startswith(others) and len(others) > 30, f"{others!r} and then {kept!r}")
 
 
 def count_service(count, machine):
-    """The unit: understood by systemd, with rights for its own folder only, and started again where it is killed."""
+    """Tests the unit: systemd understands it, gives it only its own folder, and starts it again if it is killed."""
     verified = machine.sh("systemd-analyze verify mud_serve.service")
     count("package: the unit", verified == (0, ""), verified)
     rights = machine.says(f"stat -c '%U %a' /var/lib/seamountcup {JOURNAL} /run/seamountcup/console")
@@ -206,7 +206,7 @@ def count_service(count, machine):
 
 
 def count_web(count, machine):
-    """The page and its socket, by curl, once the host has taken the marks off two lines of serve.toml."""
+    """Tests the page and its socket by curl, once the host has taken the marks off two lines of serve.toml."""
     machine.sh("sed -i 's/^#web-/web-/' /etc/seamountcup/serve.toml; systemctl restart mud_serve")
     page = "curl -sS --retry 20 --retry-delay 1 --retry-connrefused -o /dev/null -w '%{http_code}' 2>/dev/null"
     answer = machine.says(f"{page} http://127.0.0.1:8000/")
@@ -221,22 +221,22 @@ def count_web(count, machine):
 
 
 def count_manual(count, machine):
-    """The pages of the manual are found by their names, and those that they refer to are."""
+    """Tests that `man` finds the pages of the manual by their names, and those that they refer to."""
     for name in ("seamountcup", "mud_serve", "mud_check", "mud_keep", "mud_explain"):
         status, said = machine.sh(f"man {name} | head -1")
         count(f"package: man {name}", status == 0 and f"{name.upper()}(" in said, said)
 
 
 def installed(machine):
-    """The files of the package that are there."""
+    """Returns the files of the package that exist."""
     return machine.says("ls -d /usr/bin/mud_* /usr/libexec/seamountcup /usr/share/doc/seamountcup 2>/dev/null || true")
 
 
-# ---- the three ways, but for the source
+# ---- the three ways, except the source
 
 
 def count_package(count, made, machine):
-    """The package from its installation to its purge."""
+    """Tests the package from its installation to its purge."""
     first, second = block("package").splitlines()
     began = time.monotonic()
     status, said = machine.sh(first)
@@ -270,7 +270,7 @@ def count_package(count, made, machine):
 
 
 def earlier_package(package, folder):
-    """A package that has a smaller number, and is the same otherwise."""
+    """Makes a package with a smaller number, and otherwise equal."""
     subprocess.run(["dpkg-deb", "--raw-extract", package, f"{folder}/earlier"], check=True)
     path = f"{folder}/earlier/DEBIAN/control"
     changed = re.sub(rb"(?m)^Version: .*$", f"Version: {EARLIER}".encode(), read(path))
@@ -282,7 +282,7 @@ def earlier_package(package, folder):
 
 
 def count_upgrade(count, made, machine, package, old):
-    """A server of an earlier package plays on in this one, with its options and its world."""
+    """Tests that a server of an earlier package continues in this one, with its options and its world."""
     machine.put(old, "/root/old.deb")
     machine.sh("apt-get install --yes ./old.deb\nsystemctl enable --now mud_serve")
     machine.sh("sed -i 's/^#idle = 3600/idle = 7200/' /etc/seamountcup/serve.toml; systemctl restart mud_serve")
@@ -300,7 +300,7 @@ def count_upgrade(count, made, machine, package, old):
 
 
 def count_by_hand(count, machine):
-    """A server that systemd knows nothing of: the launcher is started as the journal's owner, and is told to end."""
+    """Tests a server without systemd: the launcher starts as the journal's owner, and ends it on request."""
     by_hand = re.search(r"`(/usr/local/libexec/\S+ [^`]*)`", text_of("docs/INSTALL.md").replace("\n", " "))[1]
     owner = "setpriv --reuid=seamountcup --regid=seamountcup --clear-groups"
     machine.sh(f"systemctl stop mud_serve; {owner} {by_hand} >/dev/null 2>&1 & echo $! > /tmp/launcher")
@@ -311,7 +311,7 @@ def count_by_hand(count, machine):
 
 
 def count_tarball(count, made, machine):
-    """The tarball from its installation to its removal."""
+    """Tests the tarball from its installation to its removal."""
     before = machine.says("find /usr/local /etc/systemd -type f")
     status, said = machine.sh(block("tarball"))
     count("tarball: install", status == 0, said)

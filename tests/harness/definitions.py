@@ -1,19 +1,19 @@
 """Counts what a reader has to believe: crate by crate for docs/DEFINITIONS.md, and claim by claim for docs/TRUST.md.
 
-The roots are what public calls say: the clauses of public functions and laws, the ghost members of public types and
-traits, the models of public types. From there each name is followed through the files of specs/. The definitions that
-are reached are counted, private ones too, with the comments above them, without imports and blank lines. The statement
-of a law is no definition but a promise, as a contract's clause is: it is counted apart.
+The roots are the statements of public calls: the clauses of public functions and laws, the ghost members of public
+types and traits, the models of public types. From there each name is followed through the files of specs/. The count
+has the definitions that are reached, private ones too, with the comments above them, without imports and blank lines.
+The statement of a law is a promise, as a contract's clause is, and not a definition: it is counted separately.
 
-A definition whose comment says that a reader need not look into it counts, and what it cites does not: contracts hand
-it on from call to call, and whatever it says, what they claim of texts and worlds names other definitions only.
+A definition whose comment says that a reader need not look into it counts. The definitions that it cites do not:
+contracts pass it on from call to call, and their claims about texts and worlds name other definitions only.
 
-A file in a folder `inner` is private: what it has is cited by private clauses, by proofs, and by definitions that are
-closed in that way. No public clause may reach it otherwise. Of what no public clause reaches, only that stands outside
-of `inner` which a closed definition of the same file cites, and which cites that file's own.
+A file in a folder `inner` is private: private clauses, proofs, and definitions that are closed in that way cite it. No
+public clause may reach it otherwise. A definition that no public clause reaches is outside of `inner` only if a closed
+definition of its file cites it, and it cites definitions of that file.
 
 Definitions and clauses also cite constants and types of the code, by imports of `specs.declared`. Those are counted for
-each claim, and so are the constants of which no law `limits` or `codes` gives the value.
+each claim, and so are the constants whose values no law `limits` or `codes` gives.
 """
 import pathlib
 import re
@@ -23,21 +23,22 @@ from harness.parts import part
 
 TOP = pathlib.Path(__file__).resolve().parents[2]
 PAGE, TRUST = TOP / "docs/DEFINITIONS.md", TOP / "docs/TRUST.md"
-# The lines of a page between which something is written.
+# The lines of a page that enclose generated text.
 BEGIN, END = "<!-- {}, written by `tests/run definitions --write`. -->", "<!-- The end of the counts. -->"
-# What docs/TRUST.md counts, and what carries it: a crate, and the functions of some of its files whose clauses say it;
-# without such files, all that is public in the crate.
+# The claims of docs/TRUST.md, and what carries each: a crate, and the functions of some of its files whose clauses
+# state it; without such files, everything public in the crate.
 CLAIMS = [
     ("the theorems about the guide", "mud_hall", {"src/laws.rt": ["guide", "walk"]}),
     ("the verdict of the checker", "mud_checker", {"src/outcome.rt": ["verdict"]}),
     ("a script, from bytes to bytes", "mud_session", {"src/scripting.rt": ["script"], "src/laws.rt": ["runs"]}),
     ("the journal", "mud_journal", {}),
-    ("the door on the web", "mud_web", {}),
+    ("the web listener", "mud_web", {}),
 ]
 # The laws that give the values of constants.
 VALUES = {"limits", "codes"}
 NAME = r"[^\W\d][\w'-]*"
-# How a definition begins: `abbrev pub Walk : Roads → ..`, `pub record IsLeast (hop : ℕ) ..`, `abbrev pub ◌or◌ : ..`.
+# The beginning of a definition: `abbrev pub Walk : Roads → ..`, `pub record IsLeast (hop : ℕ) ..`, `abbrev pub ◌or◌ :
+# ..`.
 BEGINS = re.compile(
     rf"(?:(?:abbrev|unfoldable|opaque|pub) )*(?:(?:record|data) (?P<type>{NAME})|(?P<value>{NAME}|◌\S+) :)"
 )
@@ -45,18 +46,19 @@ MODULE = re.compile(r"(?:pub )?mod ")
 # A line that imports: names of a module, or a module under a name.
 USES = re.compile(r"\s*(?:ghost |pub )?use (?P<path>Rattle\.[\w.]+?)(?:\.\{(?P<names>[^}]*)\}| as (?P<as>\w+))?;?$")
 COMMENT_OR_TEXT = re.compile(r'(?:--|//).*|"(?:\\.|[^"\\])*"')
-# A name, or the names of a dotted path. What follows a dot alone is a field.
+# A name, or the names of a dotted path. A name right after a dot is a field.
 CITED = re.compile(rf"(?<![.\w'-]){NAME}(?:\.{NAME})*")
 CLOSED = "A reader need not look into this"
 PRIVATE = "inner"
 DECLARED, CONSTANTS, VARIANTS = ".specs.declared", "TheConstants", "TheVariants"
 LONGEST_LINE = 120
-# A ported crate that more crates than these stand on is shown with their number.
+# A ported crate that more crates than this depend on is shown with their number.
 MOST_NAMED = 6
 
 
 def imports(lines):
-    """What each name of these lines' imports stands for: the module and the name there, or None for all of it."""
+    """Returns the meaning of each name of these lines' imports: the module and the name there, or None for all of
+    it."""
     found = {}
     for use in filter(None, map(USES.match, lines)):
         if use["names"] is None:
@@ -68,12 +70,12 @@ def imports(lines):
 
 
 def plain(text):
-    """The text without comments and without what stands in quotes."""
+    """Returns the text without comments and quoted text."""
     return COMMENT_OR_TEXT.sub("", text)
 
 
 class Definitions:
-    """The definitions of all specs: module and name to the lines, and to what the module's imports stand for."""
+    """The definitions of all specs: module and name to the lines, and to the meaning of the module's imports."""
 
     def __init__(self):
         self.lines, self.passed_on = {}, {}
@@ -82,7 +84,7 @@ class Definitions:
             self.read(".".join(["Rattle", crate, "specs", *below]), path.read_text().splitlines())
 
     def read(self, module, lines):
-        """Takes in the definitions of a file. A comment between two clauses is a part of the definition."""
+        """Adds the definitions of a file. A comment between two clauses is part of the definition."""
         uses, comment, current = imports(lines), [], None
         self.passed_on |= {
             (module, name): at for line in lines if re.match("pub use ", line) for name, at in imports([line]).items()
@@ -103,7 +105,7 @@ class Definitions:
                 comment = []
 
     def at(self, module, name, uses):
-        """What a name, or a path, of a module stands for."""
+        """Returns the meaning of a name, or a path, in a module."""
         first, _, rest = name.partition(".")
         if rest and first in uses and uses[first][1] is None:
             return uses[first][0], rest.partition(".")[0]
@@ -111,7 +113,7 @@ class Definitions:
         return known[0] if known else uses.get(first, uses.get(f"◌{first}◌"))
 
     def cited(self, text, uses, module=""):
-        """The definitions that a text cites."""
+        """Returns the definitions that a text cites."""
         for name in set(CITED.findall(plain(text))):
             at = self.at(module, name, uses)
             while at in self.passed_on:
@@ -120,12 +122,12 @@ class Definitions:
                 yield at
 
     def is_closed(self, at):
-        """Whether a reader need not look into what a definition cites."""
+        """Returns whether a reader need not look into the definitions that a definition cites."""
         comment = [line[2:].strip() for line in self.lines[at][0] if line.startswith("--")]
         return CLOSED in " ".join(comment)
 
     def reached(self, roots):
-        """What the roots cite, and what that cites, and so on."""
+        """Returns the definitions that the roots cite, those that these cite, and so on."""
         left, found = list(roots), set()
         while left:
             at = left.pop()
@@ -137,12 +139,12 @@ class Definitions:
 
 
 def blocks(text):
-    """The items of a file of code, each up to the brace that ends it, by the indentation that `rt fmt` gives."""
+    """Returns the items of a file of code, each up to its closing brace, by the indentation of `rt fmt`."""
     return re.findall(r"(?m)^[^\s/#}].*(?:;|\{\})$|^[^\s/#}].*\n(?:(?!\}|\{\}).*\n)*(?:\}|\{\}).*$", text)
 
 
 def exported(crate):
-    """The names that a library hands out; of a program, what its main calls."""
+    """Returns the names that a library exports; of a program, those that its main calls."""
     library, program = crate / "src/lib.rt", crate / "src/main.rt"
     top = (library if library.exists() else program).read_text()
     uses = re.findall(r"(?ms)^pub use ([^;]*);" if library.exists() else r"(?ms)^use crate::([^;]*);", top)
@@ -154,12 +156,12 @@ def exported(crate):
 
 
 def clauses(function):
-    """What a function says before its body."""
+    """Returns the text of a function before its body."""
     return re.split(r"(?m)^\s*\{", function, maxsplit=1)[0]
 
 
 def said(block, names):
-    """What an item says to those who use it, if it is of these names."""
+    """Returns the public text of an item, if it has one of these names."""
     function = re.match(r"pub(?:\(crate\))? (?:const )?fn (\w+)", block)
     if function:
         return clauses(block) if function[1] in names else ""
@@ -173,7 +175,8 @@ def said(block, names):
 
 
 def said_by(crate, only=None):
-    """What the public items of a crate say, or those of these names in some files: texts, with their file's imports."""
+    """Returns the texts of the public items of a crate, or of those with these names in some files, each with its
+    file's imports."""
     files = {crate / file: set(names) for file, names in (only or {}).items()}
     files = files or dict.fromkeys(crate.glob("src/**/*.rt"), exported(crate))
     for path, names in sorted(files.items()):
@@ -183,13 +186,13 @@ def said_by(crate, only=None):
 
 
 def roots_of(crate, definitions):
-    """The definitions that a crate's public contracts and laws cite."""
+    """Returns the definitions that a crate's public contracts and laws cite."""
     for text, uses in said_by(crate):
         yield from definitions.cited(text, uses)
 
 
 def statements_of(crate, definitions):
-    """What the laws of a crate state."""
+    """Returns the statements of a crate's laws."""
     for path in sorted(crate.glob("src/**/*laws.rt")):
         text = path.read_text()
         cited = definitions.cited("\n".join(map(clauses, blocks(text))), imports(text.splitlines()))
@@ -197,12 +200,12 @@ def statements_of(crate, definitions):
 
 
 def is_private(module):
-    """Whether the module is a file that only private clauses and proofs may cite."""
+    """Returns whether the module is a file that only private clauses and proofs may cite."""
     return PRIVATE in module.split(".")
 
 
 def cites_its_file(definitions, beside):
-    """Whether one of these definitions of a file cites what else the file has."""
+    """Returns whether one of these definitions of a file cites the other ones of the file."""
     for at in beside:
         lines, uses = definitions.lines[at]
         cited = definitions.cited("\n".join(lines), uses, at[0])
@@ -212,8 +215,8 @@ def cites_its_file(definitions, beside):
 
 
 def strays(definitions, found):
-    """What stands in a public file though no public clause reaches it: module and name. It may stand beside a closed
-    definition that cites it, where it cites what else the file has: two files can't cite each other."""
+    """Returns the definitions in a public file that no public clause reaches: module and name. One may be beside a
+    closed definition that cites it, if it cites others of the file: two files can't cite each other."""
     left = {at for at in definitions.lines if at not in found and not is_private(at[0])}
     for closed in filter(definitions.is_closed, definitions.lines):
         lines, uses = definitions.lines[closed]
@@ -224,7 +227,8 @@ def strays(definitions, found):
 
 
 def counted(definitions):
-    """Each definition that a reader has to believe: crate, module and name to its lines, and whether it is a law's."""
+    """Returns each definition that a reader has to believe: crate, module and name to its lines, and whether it is a
+    law's."""
     crates = [path for path in sorted((TOP / "crates").iterdir()) if path.is_dir()]
     laws = {at for crate in crates for at in statements_of(crate, definitions)}
     reached = definitions.reached({at for crate in crates for at in roots_of(crate, definitions)})
@@ -232,13 +236,13 @@ def counted(definitions):
 
 
 def crate_lines():
-    """The crates of crates.txt, and what each stands on."""
+    """Returns the crates of crates.txt, and the dependencies of each."""
     lines = re.findall(rf"(?m)^({NAME})(?: [^:\n]*)?:([^#\n]*)", (TOP / "crates.txt").read_text())
     return {crate: lows.split() for crate, lows in lines}
 
 
 def table(found):
-    """The table of docs/DEFINITIONS.md: a row a crate, in the order of crates.txt, and their sum."""
+    """Returns the table of docs/DEFINITIONS.md: a row for each crate, in the order of crates.txt, and their sum."""
     counts = {crate: [0, 0] for crate in crate_lines()}
     for (module, _), (lines, is_law) in found.items():
         counts[module.split(".")[1]][is_law] += lines
@@ -249,7 +253,7 @@ def table(found):
 
 
 def filled(what, names):
-    """A sentence with a list, in lines of a page."""
+    """Returns a sentence with a list, in lines of a page."""
     return textwrap.fill(f"{what}: {', '.join(names) or 'none'}.", LONGEST_LINE, break_on_hyphens=False)
 
 
@@ -257,7 +261,8 @@ def filled(what, names):
 
 
 def declared(path, name):
-    """The constant or the type that an import of the code's own items stands for: crate, module and name; None else."""
+    """Returns the constant or the type behind an import of the code's own items: crate, module and name; otherwise
+    None."""
     crate, is_declared, below = path.removeprefix("Rattle.").partition(DECLARED)
     if not is_declared or not (TOP / "crates" / crate).is_dir():
         return None
@@ -266,7 +271,7 @@ def declared(path, name):
 
 
 def shown_in(text, uses):
-    """The constants and the types of the code that a text cites."""
+    """Returns the constants and the types of the code that a text cites."""
     for name in set(CITED.findall(plain(text))):
         path, own = uses.get(name.partition(".")[0], ("", None))
         if found := declared(path, own or name.partition(".")[2]):
@@ -278,7 +283,7 @@ def is_constant(item):
 
 
 def lines_of_type(item):
-    """How many lines a type of the code has, without comments and attributes."""
+    """Returns the number of lines of a type, without comments and attributes."""
     crate, module, name = item
     items = blocks((TOP / f"crates/{crate}/src/{module}.rt").read_text())
     found = next(it for it in items if re.match(rf"pub(?:\(crate\))? (?:struct|enum|trait) {name}\b", it))
@@ -286,7 +291,7 @@ def lines_of_type(item):
 
 
 def shown_by(definitions, texts, found):
-    """The constants and the types that contracts cite, and the definitions that they reach."""
+    """Returns the constants and the types that contracts cite, and the definitions that they reach."""
     opened = (definitions.lines[at] for at in found if not definitions.is_closed(at))
     texts = [*texts, *(("\n".join(lines), uses) for lines, uses in opened)]
     return {item for text, uses in texts for item in shown_in(text, uses)}
@@ -296,13 +301,13 @@ def shown_by(definitions, texts, found):
 
 
 def carriers(crate, only):
-    """How a page names what carries a claim."""
+    """Returns the text of a page for what carries a claim."""
     names = ", ".join(f"`{name}`" for names in only.values() for name in names)
     return f"`{crate}`, {names or 'all that is public'}"
 
 
 def claim_row(definitions, claim, crate, only):
-    """The row of a claim: what has to be believed for it."""
+    """Returns the row of a claim: what has to be believed for it."""
     texts = list(said_by(TOP / "crates" / crate, only))
     found = definitions.reached({at for text, uses in texts for at in definitions.cited(text, uses)})
     shown = shown_by(definitions, texts, found)
@@ -313,13 +318,13 @@ def claim_row(definitions, claim, crate, only):
 
 
 def claims(definitions):
-    """The table of docs/TRUST.md: a row for each claim."""
+    """Returns the table of docs/TRUST.md: a row for each claim."""
     head = "| Claim | What carries it | Definitions | Their lines | Constants | Types | Their lines |"
     return "\n".join([head, "|---|---|---|---|---|---|---|", *(claim_row(definitions, *claim) for claim in CLAIMS)])
 
 
 def unpromised(definitions, found):
-    """The constants that public contracts reach, and of which no law gives the value."""
+    """Returns the constants that public contracts reach and whose values no law gives."""
     crates = [TOP / "crates" / crate for crate in crate_lines()]
     texts = [it for crate in crates for it in said_by(crate)]
     laws = [said_by(crate, {"src/laws.rt": VALUES}) for crate in crates if (crate / "src/laws.rt").exists()]
@@ -332,7 +337,7 @@ def unpromised(definitions, found):
 
 
 def ported():
-    """The table of docs/TRUST.md of the kit's crates, and of those that stand on them."""
+    """Returns the table of docs/TRUST.md of the kit's crates, and of those that depend on them."""
     lines, rows = crate_lines(), []
     for low in sorted({low for lows in lines.values() for low in lows} - set(lines)):
         users = [f"`{crate}`" for crate, lows in lines.items() if low in lows]
@@ -341,7 +346,7 @@ def ported():
 
 
 def unsafe():
-    """The `unsafe` blocks and functions of the code, by their files."""
+    """Returns the `unsafe` blocks and functions of the code, by their files."""
     texts = {path: plain(path.read_text()) for path in sorted((TOP / "crates").glob("*/src/**/*.rt"))}
     counts = {path.relative_to(TOP): len(re.findall(r"\bunsafe\b", text)) for path, text in texts.items()}
     return filled("`unsafe` stands in", [f"`{path}` ({count})" for path, count in counts.items() if count])
@@ -351,7 +356,7 @@ def unsafe():
 
 
 def stands_written(page, name, text, is_to_write):
-    """Whether a page has this text between its lines of this name, into which it is written where it is to be."""
+    """Returns whether a page has this text between its lines with this name. Writes it there if asked."""
     before, begin, rest = page.read_text().partition(BEGIN.format(name))
     old, end, after = rest.partition(END)
     new = f"\n\n{text}\n\n"
@@ -365,9 +370,8 @@ def stands_written(page, name, text, is_to_write):
       words="[--write | --list | --strays]")
 def definitions(count, word=""):
     """Compares the tables of the pages, and keeps private files from public clauses. `--write` writes the tables,
-    `--list` prints each definition that is counted, `--strays` each one that stands in a public file and that none
-    reaches.
-    """
+    `--list` prints each definition that is counted, `--strays` each one that is in a public file and that none
+    reaches."""
     known = Definitions()
     found = counted(known)
     if word == "--list":

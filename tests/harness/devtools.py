@@ -1,6 +1,5 @@
-"""A headless browser with one page, what is typed into it, and what it shows: Chromium, driven over its debugging port
-(the Chrome DevTools Protocol), and Firefox, driven over its own (WebDriver BiDi).
-"""
+"""A headless browser with one page, its input and its output: Chromium, driven over its debugging port (the Chrome
+DevTools Protocol), and Firefox, driven over its own (WebDriver BiDi)."""
 import base64
 import contextlib
 import json
@@ -21,7 +20,7 @@ CHROMIUM, FIREFOX = ("chromium", "chromium-browser", "google-chrome"), ("firefox
 INSTALL = "apt-get install --no-install-recommends chromium firefox-esr fonts-dejavu-core"
 FLAGS = ["--headless=new", "--no-sandbox", "--disable-gpu", "--no-first-run", "--remote-debugging-port=0"]
 SECONDS, PIECE = 30, 65_536
-# What keeps a Firefox from waiting for servers of its makers, that may be out of reach.
+# Settings that keep a Firefox from waiting for its vendor's servers, which may be out of reach.
 QUIET = {
     "app.normandy.enabled": False, "messaging-system.rsexperimentloader.enabled": False, "app.update.auto": False,
     "datareporting.policy.dataSubmissionEnabled": False, "services.settings.server": "data:,#remote-settings-dummy/v1",
@@ -34,7 +33,7 @@ KEYS = {"Enter": "\ue007", "Tab": "\ue004", "Escape": "\ue00c", "ArrowUp": "\ue0
 
 
 def path_of(names):
-    """The browser's path; where there is none, what needs one is skipped."""
+    """Returns the browser's path. Without one, the parts that need it are skipped."""
     for name in names:
         if path := shutil.which(name):
             return path
@@ -42,7 +41,7 @@ def path_of(names):
 
 
 class Socket:
-    """The client's side of the web socket at which the browser takes commands, a text of JSON each."""
+    """The client's side of the web socket for the browser's commands, each a JSON text."""
 
     def __init__(self, url):
         host, port, path = re.fullmatch(r"ws://([^:/]+):(\d+)(/.*)", url).groups()
@@ -72,7 +71,7 @@ class Socket:
         self.socket.sendall(frame(TEXT, json.dumps(value).encode()))
 
     def next(self):
-        """The next text, whole."""
+        """Returns the next complete text."""
         text, is_final = b"", False
         while not is_final:
             first, length = self.take(2)
@@ -83,7 +82,7 @@ class Socket:
 
 
 class Page:
-    """What is asked of the page in either browser. What its console and its log say is kept in `said`."""
+    """The operations on the page in either browser. `said` collects the messages of its console and its log."""
 
     name, flags = "", []
 
@@ -100,7 +99,7 @@ class Page:
             raise
 
     def waits_for(self, expression, seconds=SECONDS):
-        """Whether an expression becomes true in the page."""
+        """Returns whether an expression becomes true in the page."""
         end = time.monotonic() + seconds
         while time.monotonic() < end:
             if self.value(expression):
@@ -145,7 +144,7 @@ class Browser(Page):
         self.call("Browser.setDownloadBehavior", behavior="allow", downloadPath=folder)
 
     def page_url(self):
-        """Where the commands for the page are taken, once the browser says so in its profile."""
+        """Returns the address for the page's commands, once the browser writes it to its profile."""
         end = time.monotonic() + SECONDS
         while time.monotonic() < end:
             with contextlib.suppress(OSError, ValueError, StopIteration):
@@ -158,7 +157,7 @@ class Browser(Page):
         raise TimeoutError("the browser does not begin")
 
     def call(self, method, **parameters):
-        """Has the browser do this; what it answers."""
+        """Sends the browser a command, and returns the result."""
         self.number += 1
         self.socket.send({"id": self.number, "method": method, "params": parameters})
         while True:
@@ -172,7 +171,7 @@ class Browser(Page):
                 self.said.append(json.dumps(told["params"])[:500])
 
     def value(self, expression):
-        """What an expression of JavaScript is worth in the page; a promise is waited for."""
+        """Returns the value of a JavaScript expression in the page; it waits for a promise."""
         told = self.call("Runtime.evaluate", expression=expression, returnByValue=True, awaitPromise=True)
         if "exceptionDetails" in told:
             raise ValueError(f"{expression}: {told['exceptionDetails']}")
@@ -183,18 +182,18 @@ class Browser(Page):
         return self.waits_for("document.readyState === 'complete'")
 
     def press(self, key, code, text=None):
-        """Presses a key and lets it go."""
+        """Presses and releases a key."""
         named = {"key": key, "code": key, "windowsVirtualKeyCode": code}
         self.call("Input.dispatchKeyEvent", type="keyDown", **named, **({"text": text} if text else {}))
         self.call("Input.dispatchKeyEvent", type="keyUp", **named)
 
     def type(self, text):
-        """Types a text where the page is typed at, and a return."""
+        """Types a text at the focus, and a return."""
         self.call("Input.insertText", text=text)
         self.press("Enter", 13, "\r")
 
     def drag(self, begin, end):
-        """Presses the mouse's button at one place, and lets it go at another."""
+        """Presses the mouse's button at one place, and releases it at another."""
         for kind, (x, y), buttons in (("Pressed", begin, 1), ("Moved", end, 1), ("Released", end, 0)):
             how = {"type": f"mouse{kind}", "x": x, "y": y, "button": "left", "buttons": buttons, "clickCount": 1}
             self.call("Input.dispatchMouseEvent", **how)
@@ -204,12 +203,12 @@ class Browser(Page):
         self.call("Emulation.setDeviceMetricsOverride", **size)
 
     def shoot(self, path):
-        """Takes a picture of the page as it is seen."""
+        """Takes a picture of the visible page."""
         with open(path, "wb") as file:
             file.write(base64.b64decode(self.call("Page.captureScreenshot", format="png")["data"]))
 
     def tree(self):
-        """What a screen reader is given of the page: a list of (role, name, properties)."""
+        """Returns the accessibility tree of the page: a list of (role, name, properties)."""
         self.call("Accessibility.enable")
         nodes = self.call("Accessibility.getFullAXTree")["nodes"]
         worth = lambda value: (value or {}).get("value")
@@ -230,7 +229,7 @@ class Firefox(Page):
         super().__init__(FIREFOX, folder)
 
     def prepare(self, folder):
-        """Files are saved into the folder, without a question, and nothing is asked of other servers."""
+        """Makes it save files into the folder without asking, and call no other servers."""
         wanted = {"browser.download.folderList": 2, "browser.download.dir": folder, **QUIET}
         lines = [f"user_pref({json.dumps(name)}, {json.dumps(value)});\n" for name, value in wanted.items()]
         with open(f"{self.profile.name}/user.js", "w") as file:
@@ -247,7 +246,8 @@ class Firefox(Page):
         self.call("session.subscribe", events=["log.entryAdded"])
 
     def port(self):
-        """Where commands are taken, once the browser says so in its profile. What comes too early is not answered."""
+        """Returns the port for commands, once the browser writes it to its profile. It does not answer earlier
+        calls."""
         end = time.monotonic() + 2 * SECONDS
         while time.monotonic() < end:
             time.sleep(1)
@@ -257,7 +257,7 @@ class Firefox(Page):
         raise TimeoutError("the browser does not begin")
 
     def call(self, method, **parameters):
-        """Has the browser do this; what it answers."""
+        """Sends the browser a command, and returns the result."""
         self.number += 1
         self.socket.send({"id": self.number, "method": method, "params": parameters})
         while True:
@@ -270,7 +270,7 @@ class Firefox(Page):
                 self.said.append(str(told["params"].get("text"))[:500])
 
     def value(self, expression):
-        """What an expression of JavaScript is worth in the page, by its text as JSON; a promise is waited for."""
+        """Returns the value of a JavaScript expression in the page, by its text as JSON; it waits for a promise."""
         told = self.call("script.evaluate", target={"context": self.context}, awaitPromise=True,
                          expression=f"(async () => JSON.stringify(await ({expression})))()")
         if told["type"] == "exception":
@@ -289,15 +289,15 @@ class Firefox(Page):
                   actions=[{"type": "key", "id": "keyboard", "actions": steps}])
 
     def press(self, key, code, text=None):
-        """Presses a key and lets it go."""
+        """Presses and releases a key."""
         self.keys(KEYS.get(key, key))
 
     def type(self, text):
-        """Types a text where the page is typed at, and a return."""
+        """Types a text at the focus, and a return."""
         self.keys(*text, KEYS["Enter"])
 
     def drag(self, begin, end):
-        """Presses the mouse's button at one place, and lets it go at another."""
+        """Presses the mouse's button at one place, and releases it at another."""
         move = [{"type": "pointerMove", "x": round(x), "y": round(y)} for x, y in (begin, end)]
         steps = [move[0], {"type": "pointerDown", "button": 0}, move[1], {"type": "pointerUp", "button": 0}]
         self.call("input.performActions", context=self.context,
@@ -307,6 +307,6 @@ class Firefox(Page):
         self.call("browsingContext.setViewport", context=self.context, viewport={"width": width, "height": height})
 
     def shoot(self, path):
-        """Takes a picture of the page as it is seen."""
+        """Takes a picture of the visible page."""
         with open(path, "wb") as file:
             file.write(base64.b64decode(self.call("browsingContext.captureScreenshot", context=self.context)["data"]))

@@ -1,7 +1,7 @@
-"""Dialogues: what several clients of one server send and read, and what the server prints at its end. The certificates
-that clients read are checked against the history that was printed.
+"""Dialogues: the input and the output of several clients of one server, and the output of the server at its end. The
+certificates that clients read are checked against the printed history.
 
-A dialogue has a step a line, which begins with the name of a client, any word:
+Each line of a dialogue is a step. It begins with the name of a client, any word:
 
     Ann opens             connects as one more client
     Ann > TEXT            sends TEXT and a line end
@@ -10,10 +10,10 @@ A dialogue has a step a line, which begins with the name of a client, any word:
     Ann reads FF FC 03    reads these bytes
     Ann ends              reads the end of all that is sent to her
     Ann closes            closes her connection, with nothing left to read as far as that is known
-    listens WORD..        words for `mud_serve listen`; stands before all others
+    listens WORD..        words for `mud_serve listen`; comes before all others
     prints                the server ends with status 0; it has printed the lines after this one, and no other
 
-Blank lines and lines that begin with `#` are none of the steps.
+Blank lines and lines that begin with `#` are not steps.
 """
 import os
 import re
@@ -26,16 +26,16 @@ from harness.proofs import refused
 from harness.server import Client, Server
 
 PROOF = re.compile(rb"\[[0-9]+\] proof")
-# Dialogues at a server that goes on from a history, with its name.
+# Dialogues at a server that continues a history, with its name.
 GOING_ON = [("format-one-goes-on", "format-one"), ("as-long-as-there-is-room", "ten")]
 
 
 class Differs(Exception):
-    """Something was not as the dialogue says."""
+    """Something differed from the dialogue."""
 
 
 class Player:
-    """One client, and the proofs that it read."""
+    """A client, and the proofs that it read."""
 
     def __init__(self, port, proofs):
         self.client = Client(port)
@@ -43,7 +43,7 @@ class Player:
         self.proof = None
 
     def reads(self, wanted):
-        """Reads a line; a proof's lines are kept."""
+        """Reads a line, and keeps the lines of a proof."""
         given = self.client.line()
         if given != wanted:
             raise Differs(f"reads {given}, and not {wanted}")
@@ -76,7 +76,7 @@ class Stage:
         self.proofs = []
 
     def play(self, name, what, text):
-        """One step."""
+        """Plays one step."""
         if what == "opens":
             self.players[name] = Player(self.server.port, self.proofs)
             return
@@ -94,7 +94,7 @@ class Stage:
             del self.players[name]
 
     def prints(self, wanted):
-        """What is printed, when the program has ended by itself."""
+        """Checks the output, when the program has ended by itself."""
         if self.players:
             raise Differs(f"these have not ended: {', '.join(self.players)}")
         status, printed = self.server.end()
@@ -104,7 +104,7 @@ class Stage:
 
 
 def steps_of(text):
-    """The words for the program, the steps with their lines' numbers, and what is to be printed."""
+    """Returns the words for the program, the steps with their line numbers, and the expected output."""
     steps, _, printed = text.partition("\nprints\n")
     lines = [(at, line.split(" ", 2)) for at, line in enumerate(steps.splitlines(), 1) if line[:1] not in ("", "#")]
     words = lines.pop(0)[1][1:] if lines[0][1][0] == "listens" else []
@@ -112,8 +112,8 @@ def steps_of(text):
 
 
 def play(path, *more):
-    """Plays a dialogue, with more words for its server. Answers the history that was printed and the proofs that were
-    read; where something differs, that is raised with the number of the line."""
+    """Plays a dialogue, with further words for its server. Returns the printed history and the proofs that were read. A
+    difference is raised with the number of the line."""
     words, steps, wanted = steps_of(read(path).decode())
     server = Server(program("mud_serve"), [*words, *more])
     stage, at = Stage(server), 0
@@ -129,7 +129,7 @@ def play(path, *more):
 
 
 def count_dialogue(count, path, *more):
-    """Counts a dialogue and the proofs that were read; answers the history, or None where the dialogue differs."""
+    """Counts a dialogue and the proofs that were read. Returns the history, or None if the dialogue differs."""
     name = os.path.relpath(path, TOP)
     try:
         history, proofs = play(path, *more)

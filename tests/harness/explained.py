@@ -1,4 +1,4 @@
-"""Explained texts: how a text is read, and what the desks of a hall do. `mud_explain` answers both."""
+"""Explained texts: how a text is read, and the results of a hall's steps. `mud_explain` gives both."""
 from harness import inputs
 from harness.parts import part
 from harness.programs import program

@@ -1,14 +1,14 @@
-"""Each call by which a program reads or writes fails in turn. A run must give all that is given where no call fails, or
-a front of that and what its program says:
+"""Each call by which a program reads or writes fails in turn. A run must give the output of a run without failures, or
+a prefix of it and the program's message:
 
 mud_serve, mud_explain    `PROGRAM: read fault` or `PROGRAM: write fault`, as the call was, and status 3; where it is a
                           file of `--load` that can't be read, `PROGRAM: cannot load: file`
-mud_check                 `unreadable: file ` and the name of what it read, and nothing else; a front of its line, where
-                          it wrote; status 2
-mud_keep                  `unreadable: file ` and the name on standard error, where it read; a front of its text, and
-                          `unreadable: standard output` there, where it wrote; status 2
+mud_check                 for a read `unreadable: file ` and the name, and nothing else; for a write a prefix of its
+                          line; status 2
+mud_keep                  for a read `unreadable: file ` and the name on standard error; for a write a prefix of its
+                          text, and `unreadable: standard output` on standard error; status 2
 
-Where each call moves one byte, all must be given.
+If each call moves one byte, the whole output must be given.
 """
 import subprocess
 import tempfile
@@ -21,7 +21,7 @@ from harness.programs import program
 from harness.trial import Trial, shown, tell
 
 ENDLESS_SECONDS = 600
-# How often a script reads, at most (docs/PROVED.md), and what it says then.
+# The greatest number of reads of a script (docs/PROVED.md), and its message beyond that.
 MOST_READS, TOO_MANY = 16_777_216, b"mud_serve: too many reads\n"
 
 
@@ -32,7 +32,8 @@ class FailedCalls(Trial):
         super().__init__(run, "fail_ends")
 
     def says(self, kind):
-        """How the program may answer where a call of this kind fails: its status, and its texts after a front."""
+        """Returns the possible answers of the program if a call of this kind fails: its status, and its texts after a
+        prefix."""
         name, words = self.run.program, self.run.words
         if name == "mud_check":
             unread = [(b"unreadable: file %s\n" % it.encode(), b"") for it in words or ["-"]]
@@ -44,7 +45,7 @@ class FailedCalls(Trial):
         return 3, [(b"", f"{name}: {text}\n".encode()) for text in texts]
 
     def is_right(self, given, _):
-        """Whether a call failed, and this is how the program answers that."""
+        """Returns whether a call failed, and the program answered as it should."""
         kind = self.failed_kind()
         if given == self.whole:
             return kind != "none"
@@ -57,7 +58,7 @@ class FailedCalls(Trial):
 
 
 def failed_in_turn(count, run):
-    """Each call of a run, and then one byte by each call."""
+    """Fails each call of a run in turn, and then gives one byte per call."""
     trial = FailedCalls(run)
     felt, faults = trial.in_turn(trial.is_right)
     by_bytes = trial.given(MOVED_BYTES=1)
@@ -69,9 +70,8 @@ def failed_in_turn(count, run):
 
 
 def read_endlessly():
-    """The status and the errors of a script that gets a line end from each read, and reads as often as it may; and how
-    often it has read: each byte that it says is a call of its own.
-    """
+    """Runs a script that gets a line end from each read, until it has read as often as it may. Returns its status, its
+    errors, and the number of its reads: each byte of its output is a call."""
     environment = {"LD_PRELOAD": library("fail_ends"), "MOVED_BYTES": "1"}
     with tempfile.NamedTemporaryFile() as calls, subprocess.Popen(["yes", ""], stdout=subprocess.PIPE) as lines:
         environment["CALLS_FILE"] = calls.name

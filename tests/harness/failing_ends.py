@@ -1,6 +1,5 @@
-"""The programs get input that can't be read, a full disk, and command lines and files that are not what they should be.
-Each must end with its words and its status.
-"""
+"""The programs get unreadable input, a full disk, and command lines and files with mistakes. Each must end with its
+message and its status."""
 import os
 import signal
 import socket
@@ -17,7 +16,7 @@ ANY = object()
 FULL_DISK = "/dev/full"
 # No command here takes this many seconds.
 LONGEST = 60
-# What no browser says of a page: it writes small letters and no path, and leaves out the scheme's own port.
+# Origins that no browser sends: a browser writes lower-case letters and no path, and leaves out the default port.
 NO_ORIGINS = [
     "localhost", "null", "ftp://localhost", "http://", "http://localhost/", "http://localhost/play", "http://me@here",
     "http://Localhost", "HTTP://localhost", "http://:8000", "http://localhost:", "http://localhost:0",
@@ -39,20 +38,20 @@ BAD_WORDS = {
 
 
 class Ends:
-    """Counts commands, each by the status, the output and the errors with which it ends."""
+    """Counts commands, each by its status, its output and its errors."""
 
     def __init__(self, count, folder):
         self.count, self.folder = count, folder
 
     def file(self, name, text):
-        """The path of a file that holds this."""
+        """Returns the path of a file with this text."""
         path = f"{self.folder}/{name}"
         with open(path, "wb") as file:
             file.write(text)
         return path
 
     def given(self, name, words, source, target):
-        """What a program gives that reads from one file, and writes to another where there is one."""
+        """Returns the result of a program that reads one file, and writes to another if given."""
         reading = os.open(source, os.O_RDONLY)
         writing = subprocess.PIPE if target is None else os.open(target, os.O_WRONLY)
         how = {"stdin": reading, "stdout": writing, "stderr": subprocess.PIPE, "text": True, "timeout": LONGEST}
@@ -63,24 +62,24 @@ class Ends:
         return ran.returncode, ran.stdout or "", ran.stderr
 
     def wants(self, status, output, errors, name, words=(), source="/dev/null", target=None):
-        """Counts a command. `ANY` errors are any text but none."""
+        """Counts a command. `ANY` errors are any non-empty text."""
         given = self.given(name, words, source, target)
         is_right = given[:2] == (status, output) and (given[2] != "" if errors is ANY else given[2] == errors)
         named = [*words, f"<{source}", *([f">{target}"] if target else [])]
         self.count(f"failing ends: {' '.join([name, *named])}", is_right, given)
 
     def wants_fault(self, fault, name, words, source="/", target=None):
-        """Counts a command that reads or writes what can't be read or written."""
+        """Counts a command with unreadable input or unwritable output."""
         self.wants(3, "", f"{name}: {fault} fault\n", name, words, source, target)
 
     def cannot_load(self, fault, file, *words):
-        """A hall that does not go on from a file, nor reads its steps; and a server that does not even listen."""
+        """Counts that a hall does not continue a file, nor read its steps, and that a server does not even listen."""
         for name, command in (("mud_explain", ["hall"]), ("mud_serve", ["listen", "--port", "0"])):
             self.wants(3, "", f"{name}: cannot load: {fault}\n", name, [*command, "--load", file, *words], source="/")
 
 
 def ten():
-    """The path of a history that a hall can go on from."""
+    """Returns the path of a history that a hall can continue."""
     return tests_file("halls/ten.history")
 
 
@@ -102,13 +101,13 @@ def try_full_disk(ends):
 
 
 def try_bad_words(ends):
-    """Words that are no command line of the program."""
+    """Words that are not a command line of the program."""
     for name, words in ((name, words) for name, rows in BAD_WORDS.items() for words in rows):
         ends.wants(2, "", ANY, name, words.split())
 
 
 def try_files_to_check(ends):
-    """A history and a certificate in files of their own, and files that are not there or not whole."""
+    """A history and a certificate in separate files, and files that are missing or incomplete."""
     history, proof = history_and_proof(*LIBRARY)
     past, longer = ends.file("history", history), ends.file("longer", history + b"x")
     proof, none = ends.file("proof", proof), f"{ends.folder}/none"
@@ -119,7 +118,7 @@ def try_files_to_check(ends):
 
 
 def try_files_to_load(ends):
-    """Files that a hall can't go on from."""
+    """Files that a hall can't continue."""
     whole = read(ten())
     lines = whole.splitlines(keepends=True)
     wrong_exit = whole.replace(b"\n4 1 walk #1 #5\n", b"\n4 1 walk #1 #7\n")
@@ -138,7 +137,7 @@ def try_files_to_load(ends):
 
 
 def try_addresses(ends):
-    """Addresses at which this machine can't listen, and texts that are none."""
+    """Addresses at which this machine can't listen, and texts that are not addresses."""
     for address, why in [("192.0.2.1", "no such address"), ("localhost", "not an IP address"),
                          ("[::1]", "not an IP address"), ("999.1.1.1", "not an IP address")]:
         words = ["listen", "--port", "4000", "--address", address]
@@ -146,7 +145,7 @@ def try_addresses(ends):
 
 
 def try_taken_port(ends):
-    """A port at which another program listens; and one of the door on the web."""
+    """A Telnet port and a web port that another program uses."""
     with socket.create_server(("127.0.0.1", 0)) as other:
         port = str(other.getsockname()[1])
         web = ["--port", "0", "--web-port", port, "--web-origin", "http://localhost"]
@@ -156,7 +155,7 @@ def try_taken_port(ends):
 
 
 def try_lost_output(ends):
-    """A server's port is read, and nothing behind it: who plays is served, and then its history can't be written."""
+    """A server's port is read, and nothing after it: its players are served, and then its history can't be written."""
     deaf = lambda: signal.signal(signal.SIGPIPE, signal.SIG_IGN)
     with Server(program("mud_serve"), ["--total", "1"], preexec_fn=deaf) as server:
         server.process.stdout.close()

@@ -1,6 +1,5 @@
-"""Each thread that a program asks for can't be started, in turn: it only, or it and all after it. Each run must give
-what is given where all threads can be started.
-"""
+"""Each thread that a program asks for can't be started, in turn: only that one, or all from it on. Each run must give
+the output of a run with all threads."""
 from harness.inputs import session
 from harness.parts import part
 from harness.runs import script, small_sessions
@@ -10,7 +9,7 @@ WORKERS = ("--workers", "8")
 
 
 def kept_in_turn(count, one, least):
-    """Each thread of a session with eight workers, which asks for this many at least."""
+    """Fails each thread of a session with eight workers, which asks for at least this many."""
     trial = Trial(script(one, *WORKERS), "fail_threads")
     felt, faults = trial.in_turn(lambda given, _: given == trial.whole, ("FAILED_FROM", "FAILED_CALL"))
     if trial.calls < least:

@@ -1,4 +1,4 @@
-"""The figures of bench/README.md that are kept as files: its tables are made of them, and each file names its run."""
+"""The figures of bench/README.md that are kept as files: its tables use them, and each file names its run."""
 import glob
 import importlib.machinery
 import importlib.util
@@ -27,7 +27,7 @@ TABLES = [[["line", "here", ""], ["say a, b", "1,200", "x"], ["look", "", ""]], 
 
 
 def script(name):
-    """A program of bench/ as a module."""
+    """Returns a program of bench/ as a module."""
     loader = importlib.machinery.SourceFileLoader(name, f"{TOP}/bench/{name}")
     module = importlib.util.module_from_spec(importlib.util.spec_from_loader(name, loader))
     loader.exec_module(module)
@@ -35,7 +35,7 @@ def script(name):
 
 
 def why_untold(path):
-    """What a file does not say of its run; nothing where it says all."""
+    """Returns the facts about its run that a file leaves out; nothing if it has all."""
     head, *tables = read(path).decode().split("\n\n")
     told = dict(re.findall(r"^# ([^:]+): (.+)$", head, re.M))
     if list(told) != TOLD or not tables:

@@ -1,6 +1,5 @@
-"""What `./run` proves, and when, over a small repository of its own: two libraries, a program above both, and a library
-that is none of its business.
-"""
+"""Proofs by `./run`, and when it makes them, in a small repository of its own: two libraries, a program above both, and
+an unrelated library."""
 import contextlib
 import os
 import shutil
@@ -58,7 +57,7 @@ CLAUSES = "ghost use Rattle.std.specs.Prelude.{◌≡◌};\n"
 
 
 def with_clauses(text):
-    """The code, with what its clauses name."""
+    """Returns the code, with the names in its clauses."""
     return text.replace("#![tactic(auto)]\n", f"#![tactic(auto)]\n\n{CLAUSES}", 1)
 
 
@@ -86,7 +85,7 @@ class Repository:
             file.write(text)
 
     def run(self, *words):
-        """What `./run` with these words came to: the status, what was written, and what was said of the proof."""
+        """Returns the result of `./run` with these words: the status, its output, and its messages about proofs."""
         environment = {**os.environ, "XDG_CACHE_HOME": f"{self.folder}/cache"}
         how = {"cwd": self.folder, "env": environment, "capture_output": True, "text": True, "timeout": SECONDS}
         ran = subprocess.run(["./run", *words], stdin=subprocess.DEVNULL, check=False, **how)
@@ -100,7 +99,7 @@ def repository():
 
 
 def ends(said, wanted):
-    """Whether the last line that was said has this."""
+    """Returns whether the last message contains this."""
     return wanted in (said.splitlines() or [""])[-1]
 
 
@@ -124,7 +123,7 @@ def first_run(count):
 
 
 def names_of(small, program):
-    """The two names of a program: that of its sum, and the one by which tests know it."""
+    """Returns the two names of a program: the one with its sum, and the one by which tests know it."""
     out = f"{small.folder}/crates/{program}/out"
     (proved,) = [name for name in os.listdir(out) if name.startswith(f"{program}-proved-")]
     return f"{out}/{proved}", f"{out}/{program}"

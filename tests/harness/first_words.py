@@ -1,5 +1,5 @@
-"""The first words of somebody new: the block of README that two players type, and help and the version of each program.
-"""
+"""The first commands of a newcomer: the block of README that two players type, and help and the version of each
+program."""
 import os
 import re
 import shlex
@@ -12,13 +12,13 @@ from harness.programs import TOP, is_unproved, program
 from harness.server import Client, Server
 
 SECONDS = 10
-# How README tells to start a server, and what two players type and read: what is typed stands at the left of a column.
+# The command of README that starts a server, and its two players; typed text is at the left of a column.
 START = re.compile(r"^\./run --unproved mud_serve listen --port 4000 --address 127\.0\.0\.1 (.*)$", re.M)
 BLOCK = re.compile(r"^```\nAnn( +)Bob\n(.*?)^```$", re.M | re.S)
 SET_IN, GREETING = "  ", b"Welcome. Type: connect NAME"
 NUMBER = re.compile(r"^## (\d+\.\d+\.\d+)$", re.M)
 KIT = re.compile(r"rattle-kit-\w+ logic [0-9a-f]{16}")
-# The words of each program that have help of their own, and its status where help can't be written.
+# The words of each program that have help of their own, and its status if help can't be written.
 FORMS = {
     "mud_serve": (["", "script", "listen"], 3),
     "mud_explain": (["", "units", "words", "parse", "names", "key", "hall"], 3),
@@ -32,7 +32,7 @@ def text_of(path):
 
 
 def steps_of(text):
-    """The steps of README's block: who, whether it is typed, and the line."""
+    """Returns the steps of README's block: the player, whether it is typed, and the line."""
     gap, rows = BLOCK.search(text).groups()
     width = len("Ann") + len(gap)
     for row in rows.splitlines():
@@ -42,7 +42,7 @@ def steps_of(text):
 
 
 def play(server, steps):
-    """What differs from the steps, as a text; an empty one where nothing does."""
+    """Returns the difference from the steps, as a text, or the empty text."""
     players = {who: Client(server.port) for who in ("Ann", "Bob")}
     steps = [*((who, False, GREETING) for who in players), *((who, typed, line.encode()) for who, typed, line in steps)]
     for who, is_typed, line in steps:
@@ -72,7 +72,7 @@ def first_words(count):
 
 
 def given(name, words, **how):
-    """What a program gives to these words: its status, its output and its errors."""
+    """Returns the result of a program with these words: its status, its output and its errors."""
     how = {"stdin": subprocess.DEVNULL, "stdout": subprocess.PIPE, **how}
     how |= {"stderr": subprocess.PIPE, "timeout": SECONDS, "text": True}
     ran = subprocess.run([program(name), *words], check=False, **how)
@@ -80,7 +80,7 @@ def given(name, words, **how):
 
 
 def count_help(count, name, form):
-    """Help is asked for by two options, and is the same to nobody else than standard output."""
+    """Counts that two options print help, to standard output only."""
     for option in ("--help", "-h"):
         status, output, errors = given(name, [*form.split(), option])
         usage = f"\nUsage: {' '.join([name, *form.split()])}"
@@ -88,7 +88,7 @@ def count_help(count, name, form):
 
 
 def count_version(count, name, number, kit):
-    """The version is the number of CHANGELOG.md, and says whether the program was proved."""
+    """Counts that the version is that of CHANGELOG.md, and says whether the program was proved."""
     wanted = f"{name} {number}, {'unproved' if is_unproved() else f'proved with {kit}'}\n"
     for option in ("--version", "-V"):
         answer = given(name, [option])

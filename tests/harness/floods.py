@@ -1,9 +1,8 @@
-"""What clients of one server may send and leave unread without making it grow. One sends megabytes without a line end,
-one a subnegotiation without an end, some send lines, questions and requests without end and read nothing; meanwhile two
-play, and all that they read is judged. At last some ask in one piece for the history, over and over, and read nothing.
-The server may grow by BOUND for each of them, besides what the history takes; by ANSWER for each who asks for that.
-Then a server with `--idle 1` ends a session that is silent, and no other.
-"""
+"""Floods that clients of one server may send, and output that they may leave unread, without making it grow. One sends
+megabytes without a line end, one a subnegotiation without an end, some send lines, questions and requests without end
+and read nothing. Meanwhile two play, and their output is judged. At last some ask in one piece for the history, over
+and over, and read nothing. The server may grow by BOUND for each of them, besides the history itself, and by ANSWER for
+each that asks for that. Then a server with `--idle 1` ends a silent session, and no other."""
 import contextlib
 import time
 
@@ -17,7 +16,7 @@ MEGABYTES = 4
 BOUND = 1_000_000
 CHANGES, HISTORY = 500, 2_000_000
 ASKERS, ANSWER = 4, 4 * CHANGES * 920
-# How a flood begins, and what is sent over and over.
+# The beginning of a flood, and the part that is repeated.
 FLOODS = [
     (b"", b"A"),
     (b"\xff\xfa", b"A"),
@@ -31,7 +30,8 @@ FLOODS = [
 
 
 def flood(client, begin, again):
-    """Sends megabytes, or as much as is taken, and reads nothing; whether it may still be there."""
+    """Sends megabytes, or as much as the server takes, and reads nothing. Returns whether the connection may still be
+    open."""
     client.give(begin)
     piece = again * (65_536 // len(again))
     client.socket.settimeout(0.5)
@@ -46,7 +46,7 @@ def flood(client, begin, again):
 
 
 def play(one, other):
-    """Two talk, and nobody else reads."""
+    """Makes two talk while the others read nothing."""
     for at in range(CHANGES):
         one.ask(f"say {at} {'x' * 890}")
         if at % 10 == 0:
@@ -54,7 +54,7 @@ def play(one, other):
 
 
 def ask_for_all(clients):
-    """Each asks for the history as often as one piece has room for, and reads nothing."""
+    """Makes each ask for the history as often as one piece has room for, and read nothing."""
     for client in clients:
         client.line()
         client.give(b"connect Wizard\r\n")
@@ -63,8 +63,8 @@ def ask_for_all(clients):
 
 
 def flood_all(server):
-    """Has all of them flood the server, while two play. Answers what the server grew by, which floods were cut off, the
-    sessions of those who played, and how the server ended."""
+    """Makes all of them flood the server while two play. Returns the growth of the server, the floods that were cut
+    off, the sessions of the players, and the end of the server."""
     one, other = Visit(server.port), Visit(server.port)
     one.ask("connect Ann")
     other.ask("connect Bob")
@@ -83,14 +83,14 @@ def flood_all(server):
 
 
 def greeted(port):
-    """A client that has read its greeting."""
+    """Returns a client that has read its greeting."""
     client = Client(port)
     client.line()
     return client
 
 
 def count_floods(count):
-    """Counts what the floods do to the server and to others."""
+    """Counts the effects of the floods on the server and on others."""
     with Server(program("mud_serve"), ["--total", str(len(FLOODS) + ASKERS + 2)]) as server:
         grown, cut_off, sessions, (status, printed) = flood_all(server)
     faults = judge(printed.decode(), sessions)[0]
@@ -102,7 +102,7 @@ def count_floods(count):
 
 
 def silence(server):
-    """After how many seconds a silent session ended, while another was lively; None where it did not end."""
+    """Returns the number of seconds after which a silent session ended, while another was active, or None."""
     silent, lively = Visit(server.port), Visit(server.port)
     began, ended = time.monotonic(), None
     lively.ask("connect Ann")
@@ -117,7 +117,7 @@ def silence(server):
 
 
 def count_silence(count):
-    """Counts what `--idle` does to a session that is silent."""
+    """Counts the effect of `--idle` on a silent session."""
     with Server(program("mud_serve"), ["--total", "2", "--idle", "1"]) as server:
         ended = silence(server)
         status, _ = server.end()

@@ -1,4 +1,4 @@
-"""The door on the web, played by web sockets that others wrote: the libraries `websockets` and `autobahn` of Debian.
+"""The web listener, played by web sockets of others: the libraries `websockets` and `autobahn` of Debian.
 
 Autobahn's test suite, of some five hundred cases, is in no package of Debian 12. The tries of harness/web.py are ours.
 """
@@ -31,7 +31,7 @@ class Foreign:
         self.process.stdin.write(f"{command}\n".encode())
 
     def line(self):
-        """The next thing that happens; nothing at the end, or where it takes too long."""
+        """Returns the next event; nothing at the end, or if it takes too long."""
         until = time.monotonic() + SECONDS
         while b"\n" not in self.kept:
             if not select.select([self.process.stdout], [], [], max(0, until - time.monotonic()))[0]:
@@ -47,8 +47,8 @@ class Foreign:
         self.process.communicate()
 
 
-# What is done, and what happens then, by docs/WEB.md: the name of a try, and its steps, of which those that begin with
-# a mark are done.
+# The tries and their events by docs/WEB.md: the name of a try, and its steps. A step that begins with a mark is an
+# action, and any other is an event.
 TRIES = [
     ("plays and quits", [GREETED, f"> {COMES}", CAME, "> text say Hello", "text [2] said", "> text quit",
                          "text [2] bye", "closed 1000"]),
@@ -63,7 +63,7 @@ TRIES = [
 
 
 def why_not(library, steps):
-    """What happens otherwise; nothing where all is as it is written."""
+    """Returns the first different event; nothing if all are as written."""
     with WebServer(console=True) as server, contextlib.closing(Foreign(library, server)) as socket:
         for step in steps:
             if step == "> stop":

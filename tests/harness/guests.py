@@ -1,7 +1,6 @@
-"""Guests who would hold up a server, and what each gets: who leaves it no descriptor, takes all places, never says who
-he is, sends no line, comes and leaves, reads nothing while much is done, leaves the log no room, or fills the history.
-Each row plays one of them against the built server.
-"""
+"""Guests that would hold up a server, and how it answers each. They take all descriptors or all places, never give a
+name, send no line, connect and leave, read nothing while much happens, block the log, or fill the history. Each row
+plays one of them against the built server."""
 import errno
 import re
 import resource
@@ -26,21 +25,23 @@ NEARLY_FULL = rb"the history has (\d+) of (\d+) changes: stop the server, shorte
 
 OF_SOME_DESK = rb"mud history 2\n1 (\d+) player #2 \"Ann\"\n2 \1 say #2 hi\nend 2\n"
 
-# How many sessions there are at once.
+# The greatest number of simultaneous sessions.
 PLACES = 64
-# How soon what is promised at once has come, and after how many seconds a limit of one second has been noticed.
+# The seconds within which an immediate effect must be seen, and those within which a limit of one second must take
+# effect.
 SOON, NOTICED = 2, (0.8, 2.5)
-# The descriptors that a server has, and how many who come it can't serve then.
+# The number of descriptors of a server, and the number of connections that it can't serve then.
 DESCRIPTORS, WAITING = 24, 40
-# Faults of a call for a connection after which the next may give one, and those after which none can.
+# Faults of accept after which the next call may succeed, and those after which none can.
 PASSING = [errno.EMFILE, errno.ENFILE, errno.ENOBUFS, errno.ENOMEM, errno.ECONNABORTED, errno.EPROTO, errno.EPERM]
 PASSING += [errno.ENETDOWN, errno.EHOSTUNREACH, errno.ETIMEDOUT, errno.EINTR, errno.EAGAIN, errno.EIO]
 LASTING = [errno.EBADF, errno.EINVAL, errno.ENOTSOCK]
-# How many say something behind the back of one who reads nothing, and how long another's answer may take meanwhile.
+# The number of lines said while one client reads nothing, their number at once, and the longest time for another's
+# answer.
 SAID, PIECE, LONGEST_WAIT = 30_000, 500, 0.3
-# How many texts a history has that is longer than what a connection holds, and how long each is.
+# The number and the length of the texts in a history that is longer than a connection's buffer.
 TEXTS, TEXT_LEN = 8_000, 890
-# How many come and leave while nobody reads the log.
+# The number of connections while nobody reads the log.
 VISITS = 1_500
 
 
@@ -49,7 +50,7 @@ def listening(*words, **how):
 
 
 def greeted(port, seconds=10):
-    """A client that has read its greeting."""
+    """Returns a client that has read its greeting."""
     client = Client(port, seconds)
     line = client.line()
     if line != GREETING:
@@ -58,7 +59,7 @@ def greeted(port, seconds=10):
 
 
 def greeted_late(port):
-    """The same, which comes again while the server is full."""
+    """Returns such a client, and tries again while the server is full."""
     while (client := Client(port)).line() == SERVER_FULL:
         client.close()
         time.sleep(0.02)
@@ -66,7 +67,7 @@ def greeted_late(port):
 
 
 def named(port, name=b"Ann"):
-    """A client whose session is a player's."""
+    """Returns a client whose session is a player's."""
     client = greeted(port)
     client.send(b"connect " + name)
     answer = client.line()
@@ -76,7 +77,7 @@ def named(port, name=b"Ann"):
 
 
 def from_other_host(port):
-    """A client of another address."""
+    """Returns a client with another address."""
     client = Client.__new__(Client)
     client.socket = socket.create_connection((HOST, port), timeout=10, source_address=(OTHER_HOST, 0))
     client.kept = b""
@@ -84,7 +85,7 @@ def from_other_host(port):
 
 
 def is_soon(condition, seconds=SOON):
-    """Whether it comes true within seconds."""
+    """Returns whether the condition becomes true within seconds."""
     end = time.monotonic() + seconds
     while time.monotonic() < end:
         if condition():
@@ -94,13 +95,13 @@ def is_soon(condition, seconds=SOON):
 
 
 def stop(server):
-    """What a server gives that is stopped at its console."""
+    """Returns the result of a server that is stopped at its console."""
     server.type(b"stop\n")
     return server.end()
 
 
 def parting(server, client):
-    """What ended the session of a client, as the log says, once it does."""
+    """Returns the end of a client's session, as the log names it, once it does."""
     host, port = client.socket.getsockname()
     mark = f"the session of {host}:{port} ends: ".encode()
     is_soon(lambda: mark in server.said())
@@ -109,7 +110,7 @@ def parting(server, client):
 
 
 def seconds_to_end(client, meanwhile=lambda: None, longest=10):
-    """After how many seconds the server ends the connection; None where it goes on."""
+    """Returns the number of seconds after which the server ends the connection, or None if it does not."""
     began = time.monotonic()
     client.socket.settimeout(0.25)
     while time.monotonic() < began + longest:
@@ -126,7 +127,7 @@ def seconds_to_end(client, meanwhile=lambda: None, longest=10):
 
 
 def why_descriptors():
-    """More come than the server has descriptors: it goes on, says so once, and serves who comes later."""
+    """More clients connect than the server has descriptors: it continues, logs it once, and serves later ones."""
     few = lambda: resource.setrlimit(resource.RLIMIT_NOFILE, (DESCRIPTORS, DESCRIPTORS))
     with listening(preexec_fn=few) as server:
         crowd = [Client(server.port) for _ in range(WAITING)]
@@ -140,13 +141,13 @@ def why_descriptors():
         client.send(b"say hi")
         answer = client.line()
         given = stop(server)
-        # which desk is free depends on who is served first
+        # the free desk depends on which client is served first
         is_whole = given[0] == 0 and re.fullmatch(OF_SOME_DESK, given[1])
         return "" if (answer, told) == (b"[2] said", 1) and is_whole else f"{answer}, {told}, {given}"
 
 
 def why_accept(number, times):
-    """Calls for a connection fail so often, by this number: the next client is served."""
+    """Accepting fails this many times with this number: the next client is served."""
     environment = {"LD_PRELOAD": library("fail_accept"), "ACCEPT_ERROR": str(number), "ACCEPT_TIMES": str(times)}
     with listening(environment=environment) as server:
         greeted(server.port).close()
@@ -155,7 +156,7 @@ def why_accept(number, times):
 
 
 def why_no_more(number):
-    """No call can ever give a connection: the history is written before the fault is told."""
+    """Accepting can never succeed again: the history is written before the fault is reported."""
     environment = {"LD_PRELOAD": library("fail_accept"), "ACCEPT_ERROR": str(number), "ACCEPT_TIMES": "1000000"}
     with Server(program("mud_serve"), environment=environment) as server:
         given = server.end(), server.said().splitlines(keepends=True)[-1:]
@@ -163,7 +164,7 @@ def why_no_more(number):
 
 
 def why_per_address():
-    """One address has as many sessions as it may: one more is refused and counts for none, another address's is not."""
+    """One address has reached its limit: one more client is refused and does not count, another address's is not."""
     with listening("--per-address", "2", "--total", "4") as server:
         first, second, third = greeted(server.port), greeted(server.port), Client(server.port)
         refused = third.line(), third.line()
@@ -179,8 +180,8 @@ def why_per_address():
 
 
 def why_full():
-    """All places are taken: one more is told so. Who leaves without a word and has not read all that he was sent makes
-    room: the next is served at his desk, as a guest."""
+    """All places are taken: one more client is told so. A client that leaves without a word, with unread output, makes
+    room: the next one is served at its desk, as a guest."""
     with listening() as server:
         first, *_ = players = [named(server.port, b"P%d" % number) for number in range(PLACES)]
         beyond = Client(server.port)
@@ -200,7 +201,8 @@ def why_full():
 
 
 def why_unnamed():
-    """Who does not say who he is leaves his place; who has said it keeps his, also by the name of an old player."""
+    """A client that gives no name leaves its place; one that has given a name keeps it, also with the name of an old
+    player."""
     with listening("--unnamed", "1") as server:
         player, nobody, old = named(server.port), greeted(server.port), greeted(server.port)
         old.send(b"connect Wizard")
@@ -219,7 +221,7 @@ def why_unnamed():
 
 
 def why_idle(sent):
-    """With `--idle 1` one who sends this four times a second is ended, and one who sends lines is not."""
+    """With `--idle 1` a client that sends this four times a second is ended, and one that sends lines is not."""
     with listening("--idle", "1") as server:
         player, silent = named(server.port), greeted(server.port)
 
@@ -235,7 +237,7 @@ def why_idle(sent):
 
 
 def why_unprobed():
-    """The system asks whether the other side is there: within a minute at first."""
+    """The system probes whether the other side is there: at first within a minute."""
     with listening() as server:
         client = greeted(server.port)
         local, remote = f"{server.port:04X}", f"{client.socket.getsockname()[1]:04X}"
@@ -246,7 +248,7 @@ def why_unprobed():
 
 
 def timer(local, remote):
-    """Which timer of a connection runs in the system, and how long it has left, in hundredths of a second."""
+    """Returns the timer of a connection that runs in the system, and its remaining time, in hundredths of a second."""
     with open("/proc/net/tcp", encoding="ascii") as file:
         for row in file.read().splitlines()[1:]:
             words = row.split()
@@ -256,7 +258,7 @@ def timer(local, remote):
 
 
 def is_refused(port):
-    """Whether the system refuses a connection."""
+    """Returns whether the system refuses a connection."""
     try:
         Client(port).close()
     except ConnectionRefusedError:
@@ -265,7 +267,7 @@ def is_refused(port):
 
 
 def why_total():
-    """Once the total has begun, who comes is refused by the system, and who plays goes on."""
+    """Once the total has begun, the system refuses new connections, and the players continue."""
     with listening("--total", "1") as server:
         player = named(server.port)
         was_refused = is_soon(lambda: is_refused(server.port))
@@ -276,7 +278,7 @@ def why_total():
 
 
 def why_counted():
-    """Who comes and leaves does not count with `--count-players`; who becomes a player does, once."""
+    """With `--count-players` a client that leaves as a guest does not count; one that becomes a player counts once."""
     with listening("--total", "2", "--count-players") as server:
         for _ in range(5):
             greeted(server.port).close()
@@ -293,7 +295,7 @@ def why_counted():
 
 
 def say_much(client):
-    """Says so much, and reads each answer."""
+    """Says this much, and reads each answer."""
     for _ in range(SAID // PIECE):
         client.give(b"say hello\r\n" * PIECE)
         answered = 0
@@ -302,7 +304,7 @@ def say_much(client):
 
 
 def why_behind():
-    """One who has read nothing for long types a line: he catches up without holding up another."""
+    """A client that has read nothing for long types a line: it catches up without delaying another."""
     with listening() as server:
         late, one, other = named(server.port, b"Late"), named(server.port, b"Ann"), named(server.port, b"Bob")
         other.close()
@@ -321,7 +323,7 @@ def why_behind():
 
 
 def why_stop_within():
-    """The server stops while a long text is sent: why it ends is said after the text, or not at all."""
+    """The server stops while a long text is sent: the reason comes after the text, or not at all."""
     with listening() as server:
         writer = named(server.port)
         for _ in range(TEXTS // PIECE):
@@ -345,7 +347,7 @@ def why_stop_within():
 
 
 def why_log():
-    """Nobody reads the log: all are served, and the next lines that go out say how many were dropped."""
+    """Nobody reads the log: all clients are served, and the next lines written say how many were dropped."""
     with listening(errors=subprocess.PIPE) as server:
         for _ in range(VISITS):
             greeted(server.port).close()
@@ -361,7 +363,7 @@ def why_log():
 
 
 def why_partings():
-    """The log names what ended each session."""
+    """The log names the end of each session."""
     with listening() as server:
         quits, closes, resets, stays = (named(server.port, name) for name in (b"Ann", b"Bob", b"Cid", b"Dan"))
         quits.send(b"quit")
@@ -376,12 +378,12 @@ def why_partings():
 
 
 def warned(server):
-    """The numbers in the lines by which its log has warned of a history that is nearly full."""
+    """Returns the numbers in the log's warnings that the history is nearly full."""
     return [tuple(map(int, numbers)) for numbers in re.findall(NEARLY_FULL, server.said())]
 
 
 def why_nearly_full():
-    """One fills the history: the log warns at the ninth change of ten, once, and again where a server goes on."""
+    """A client fills the history: the log warns at nine tenths, once, and again after a restart."""
     with Place(said(7)) as place:
         with place.server("--capacity", "10", console=True) as server:
             client, answers = named(server.port), []

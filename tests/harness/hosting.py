@@ -1,4 +1,4 @@
-"""What docs/HOSTING.md gives a host to copy: a unit for systemd, and proxies with TLS before the door on the web."""
+"""The files of docs/HOSTING.md that a host copies: a unit for systemd, and proxies with TLS before the web port."""
 import contextlib
 import os
 import re
@@ -19,10 +19,10 @@ from harness.web_client import NotLetIn, WebClient
 NAME = "mud.example.org"
 ORIGIN = f"https://{NAME}"
 UNIT = f"{TOP}/examples/mud_serve.service"
-# What systemd-analyze says of a unit: up to 10, where 10 has no protection at all.
+# The exposure level of a unit by systemd-analyze: up to 10, which means no protection at all.
 EXPOSURE, MOST_EXPOSURE = re.compile(r"exposure level for \S+: ([\d.]+)"), 2
 MOST_SESSIONS = 4
-# How nginx is run on its own by whoever tries it, in a folder.
+# The settings by which nginx runs alone, in a folder.
 NGINX = """daemon off;
 pid FOLDER/pid;
 error_log FOLDER/error.log;
@@ -41,7 +41,7 @@ LIFETIMES = {"nginx": ("proxy_read_timeout 1d;", "proxy_send_timeout 1d;"), "hap
 
 
 def wanted(*programs):
-    """Skips the part where one of these is not installed. Debian has nginx and haproxy in /usr/sbin."""
+    """Skips the part if one of these is not installed. Debian has nginx and haproxy in /usr/sbin."""
     os.environ["PATH"] += ":/usr/sbin"
     for name in programs:
         if not shutil.which(name):
@@ -49,7 +49,7 @@ def wanted(*programs):
 
 
 def recipe(kind):
-    """The recipe of this kind in the page."""
+    """Returns the page's recipe of this kind."""
     page = read(f"{TOP}/docs/HOSTING.md").decode()
     return re.search(rf"^```{kind}\n(.*?)^```$", page, re.M | re.S)[1]
 
@@ -67,7 +67,7 @@ def unit(count):
 
 
 def make_certificate(folder):
-    """A certificate of the proxy's name, signed by itself, and its key; and both in one file."""
+    """Makes a self-signed certificate for the proxy's name, its key, and both in one file."""
     words = ["openssl", "req", "-x509", "-newkey", "rsa:2048", "-nodes", "-days", "2", "-subj", f"/CN={NAME}"]
     words += ["-addext", f"subjectAltName=DNS:{NAME}", "-keyout", f"{folder}/key.pem", "-out", f"{folder}/chain.pem"]
     subprocess.run(words, check=True, capture_output=True)
@@ -76,7 +76,7 @@ def make_certificate(folder):
 
 
 class Proxy:
-    """A proxy that the page's recipe makes in front of a server, with other ports and files, below a folder."""
+    """A proxy made by the page's recipe in front of a server, with other ports and files, below a folder."""
 
     def __init__(self, kind, server, folder):
         self.kind, self.folder, self.plain, self.secure = kind, folder, free_port(), free_port()
@@ -97,12 +97,12 @@ class Proxy:
             file.write(text)
 
     def words(self):
-        """The command that runs it."""
+        """Returns the command that runs it."""
         own = ["-p", self.folder, "-c", self.file, "-e", f"{self.folder}/error.log"]
         return ["nginx", *own] if self.kind == "nginx" else ["haproxy", "-db", "-f", self.file]
 
     def faults(self):
-        """What it says of its file before it runs; nothing where that is well."""
+        """Returns the errors of its file before it runs, or nothing."""
         check = "-t" if self.kind == "nginx" else "-c"
         ran = subprocess.run([*self.words(), check], capture_output=True, text=True, check=False)
         said = ran.stdout + ran.stderr
@@ -111,7 +111,7 @@ class Proxy:
 
     @contextlib.contextmanager
     def running(self):
-        """Runs it, once its two ports answer."""
+        """Runs it, and yields once its two ports answer."""
         process = subprocess.Popen(self.words(), stdout=subprocess.DEVNULL, stderr=subprocess.DEVNULL)
         try:
             for port in (self.plain, self.secure):
@@ -122,12 +122,12 @@ class Proxy:
             process.wait()
 
     def dial(self, origin):
-        """A web socket through it."""
+        """Opens a web socket through it."""
         return SecureClient(self.secure, origin, f"{self.folder}/chain.pem")
 
 
 def wait_for(port):
-    """Waits until somebody listens there."""
+    """Waits until a program listens there."""
     began = time.monotonic()
     while time.monotonic() - began < SECONDS:
         with contextlib.suppress(OSError), socket.create_connection((HOST, port), timeout=SECONDS):
@@ -137,7 +137,7 @@ def wait_for(port):
 
 
 class SecureClient(WebClient):
-    """A web socket over TLS, to whom this certificate shows to be the proxy."""
+    """A web socket over TLS that verifies the proxy by this certificate."""
 
     def __init__(self, port, origin, certificate):
         self.context = ssl.create_default_context(cafile=certificate)
@@ -148,7 +148,7 @@ class SecureClient(WebClient):
 
 
 def refused(proxy, origin):
-    """With which status a web socket is refused; None where it is let in."""
+    """Returns the status with which a web socket is refused, or None if it is admitted."""
     try:
         proxy.dial(origin).close()
         return None
@@ -157,7 +157,7 @@ def refused(proxy, origin):
 
 
 def redirected(proxy):
-    """Where who comes without TLS is sent."""
+    """Returns the address to which a request without TLS is redirected."""
     with socket.create_connection((HOST, proxy.plain), timeout=SECONDS) as plain:
         plain.sendall(f"GET /?a=b HTTP/1.1\r\nHost: {NAME}\r\nConnection: close\r\n\r\n".encode())
         answer = plain.recv(65_536)
@@ -166,7 +166,8 @@ def redirected(proxy):
 
 
 def play_through(count, kind, proxy):
-    """One plays, a page of elsewhere is refused, and so is one session more than an address may have."""
+    """Counts that one client plays, a page of another origin is refused, and so is one session beyond the limit of an
+    address."""
     player = proxy.dial(ORIGIN)
     said = [player.line()]
     for line in (b"connect Ann", b"say Hello"):

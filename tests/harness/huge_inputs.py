@@ -1,7 +1,6 @@
-"""Inputs of a million bytes and more, which are made here. A million of one byte without a line end is answered within
-a second of processor time, and so are lines that come together and have long answers. Sixteen million bytes are
-answered by a script within half of that memory.
-"""
+"""Inputs of a million bytes and more, which are made here. A million times one byte without a line end is answered
+within a second of processor time, and so are lines that arrive together and have long answers. A script answers sixteen
+million bytes within half of that memory."""
 import resource
 import subprocess
 
@@ -27,11 +26,11 @@ STAY = b"mud proof 1\nversion 65536\nmember #1 from #0\nlabels #0:0\nwalk nothin
 
 
 def history(count, end):
-    """A history of `count` changes, with this at its end."""
+    """Returns a history of `count` changes, with this at its end."""
     return b"mud history 2\n" + b"".join(b"%d 1 say #1 hi\n" % n for n in range(1, count + 1)) + end
 
 
-# What is shown; the program and its words; its input; its output.
+# The case; the program and its words; its input; its output.
 ROWS = [
     ("a subnegotiation without an end", ["mud_explain", "units"], b"\xff\xfa" + b"A" * MILLION, b""),
     ("a line of too many characters", ["mud_explain", "units"], b"A" * MILLION + b"\nlook\n", b"too long\ntext look\n"),
@@ -53,7 +52,7 @@ TOO_LONG = b"(line too long)\r\n"
 PARSED = b"verb [%s] direct [] preposition - indirect [] rest [%s]\n"
 NOT_TEXT, BAD_NAMES = b"not text\n", b"bad names\n"
 MANY_A, MANY_OPEN, HALF = b"A" * MILLION, b"(" * MILLION, b"\\" * (MILLION // 2)
-# A byte of which a million come; what is answered by a script, and of words, parse, names and key.
+# The byte that is sent a million times; the answers of a script, and of words, parse, names and key.
 FLOODS = [
     (b"A", TOO_LONG, b"[%s]\n" % MANY_A, PARSED % (MANY_A.lower(), b""), BAD_NAMES, MANY_A + b"\n"),
     (b"(", TOO_LONG, b"[%s]\n" % MANY_OPEN, PARSED % (MANY_OPEN, b""), BAD_NAMES, b"bad key at %d\n" % MILLION),
@@ -64,7 +63,7 @@ FLOODS = [
 
 
 def floods():
-    """What is shown of a million of one byte: the program and its words; its input; its output."""
+    """Yields the cases of a million times one byte: the case; the program and its words; its input; its output."""
     for byte, script, *explained in FLOODS:
         text, what = byte * MILLION, f"a million of {byte!r}"
         yield what, ["mud_serve", "script"], text, script
@@ -76,7 +75,7 @@ def floods():
 
 
 def long_answers(changes=3_000, asked=400):
-    """What is shown of a history that is asked for in many lines at once, in the form of a row."""
+    """Returns the case of a history that many lines ask for at once, as a row."""
     told = b"[%d] history\n" % changes + history(changes, b"end %d\n" % changes)
     lines = b"connect Wizard\n" + b"say hi\n" * changes + b"@history\n" * asked
     said = b"[0] welcome #1\n" + b"".join(b"[%d] said\n" % n for n in range(1, changes + 1))
@@ -84,7 +83,7 @@ def long_answers(changes=3_000, asked=400):
     return "long answers to lines that come together", ["mud_serve", "script"], lines, right
 
 
-# What a script reads in constant memory; its input; its output.
+# The case that a script reads in constant memory; its input; its output.
 CONSTANT = [
     ("a line", b"A" * (16 * MILLION), TOO_LONG),
     ("refused options", b"\xff\xfc" * (8 * MILLION), b""),
@@ -93,7 +92,7 @@ CONSTANT = [
 
 
 def answer(command, text, memory):
-    """What a program answers, and the processor time that it takes; `memory` is the address space that it gets."""
+    """Returns the output of a program, and its processor time; `memory` is its address space."""
     limit = None if memory is None else lambda: resource.setrlimit(resource.RLIMIT_AS, (memory, memory))
     command = [program(command[0]), *command[1:]]
     before = resource.getrusage(resource.RUSAGE_CHILDREN)
@@ -106,7 +105,7 @@ def answer(command, text, memory):
 
 
 def why_wrong(command, text, right, seconds, memory=None):
-    """Why an answer is wrong, or came too late; nothing where it is right."""
+    """Returns why an answer is wrong, or came too late, or nothing."""
     given, took = answer(command, text, memory)
     if given != right:
         return f"{given[:100]}, and not {right[:100]}"

@@ -1,4 +1,4 @@
-"""Short sessions are played in pieces: the script reads one byte at a time, each LF as CR LF, and answers as ever."""
+"""Short sessions are played in pieces: the script reads one byte at a time, each LF as CR LF, and answers as usual."""
 import contextlib
 import fcntl
 import os
@@ -13,7 +13,7 @@ SECONDS = 60
 
 
 def give(text, pipe):
-    """Writes the text byte by byte, until the other side wants no more of it."""
+    """Writes the text byte by byte, until the other side closes."""
     with contextlib.suppress(BrokenPipeError):
         for at in range(len(text)):
             os.write(pipe, text[at : at + 1])
@@ -21,9 +21,9 @@ def give(text, pipe):
 
 
 def answers(text, words):
-    """The status and the output of a script that reads one byte at a time."""
+    """Returns the status and the output of a script that reads one byte at a time."""
     reader, writer = os.pipe()
-    # so that each read gives what one write wrote
+    # so that each read gets the bytes of one write
     with contextlib.suppress(OSError):
         fcntl.fcntl(writer, fcntl.F_SETFL, os.O_DIRECT)
     with tempfile.NamedTemporaryFile() as output:

@@ -1,6 +1,5 @@
-"""A server with a journal. It goes on from what is there, whole line by whole line, and where it can't it says why and
-leaves the file as it is. What is printed at its end is the journal and the last line of a history.
-"""
+"""A server with a journal. It continues the complete lines of the file; otherwise it says why it can't, and leaves the
+file unchanged. Its output at the end is the journal and the last line of a history."""
 import os
 import resource
 import shutil
@@ -14,7 +13,7 @@ from harness.programs import program
 from harness.server import HOST, Client, Server
 
 SECONDS = 10
-# How long a server may take that goes on from as many changes as a history holds.
+# The longest start, in seconds, with as many changes as a history holds.
 START_SECONDS = 5
 
 FIRST = b"mud history 2\n"
@@ -22,22 +21,22 @@ LAST_LINE = b"2 1 say #2 hi\n"
 ANN = FIRST + b'1 1 player #2 "Ann"\n' + LAST_LINE
 MOST = 65_536
 LIMIT_BYTES = 400
-# A user who owns nothing.
+# A user that owns nothing.
 NOBODY = 65_534
 
 
 def said(count):
-    """A journal of so many changes."""
+    """Returns a journal with this many changes."""
     lines = [b"%d 1 say #1 hi\n" % version for version in range(1, count + 1)]
     return FIRST + b"".join(lines)
 
 
 def ended(text):
-    """The history of a journal."""
+    """Returns the history of a journal."""
     return text + b"end %d\n" % (text.count(b"\n") - 1)
 
 
-# What is in the file; more words; why the server does not go on from it.
+# The contents of the file; further words; why the server does not continue it.
 REFUSED = [
     ("a text", b"hello\n", [], b"cannot open journal: not a history"),
     ("a text of one long line", b"hello, a line without its end", [], b"cannot open journal: not a history"),
@@ -83,7 +82,7 @@ class Place:
 
 
 def why_taken(text, words, why):
-    """What went otherwise where a server is to be refused its journal; nothing where it was refused."""
+    """Returns what went wrong if a server should refuse its journal, or nothing if it does."""
     with Place(text) as place:
         words = [word.format(whole=place.whole) for word in words]
         command = [program("mud_serve"), "listen", "--port", "0", "--address", HOST, "--journal", place.path, *words]
@@ -95,15 +94,14 @@ def why_taken(text, words, why):
 
 
 def told_of(count):
-    """What is told where so many bytes are torn."""
+    """Returns the message about this many torn bytes."""
     bytes_are = b"byte at the end of the journal is" if count == 1 else b"bytes at the end of the journal are"
     return b"mud_serve: %d torn %s cut off\n" % (count, bytes_are) if count else b""
 
 
 def why_lost(text, kept, words=(), torn=0):
-    """What went otherwise where a server is to go on from the whole lines of a text, which has so many bytes more;
-    nothing where all went well.
-    """
+    """Returns what went wrong if a server should continue the complete lines of a text with this many further bytes, or
+    nothing."""
     with Place(text) as place, place.server(*words, console=True) as server:
         if server.port is None:
             return f"it does not start: {server.said()}"
@@ -117,7 +115,7 @@ def why_lost(text, kept, words=(), torn=0):
 
 
 def say(port, *lines):
-    """One who connects as Ann says this, and leaves; what he reads last before that."""
+    """Connects as Ann, says this, and leaves. Returns the last line read before that."""
     client = Client(port)
     client.line()
     for line in (b"connect Ann", *lines):
@@ -128,7 +126,7 @@ def say(port, *lines):
 
 
 def why_broken():
-    """What went otherwise where a server is killed, and another goes on; nothing where all went well."""
+    """Returns what went wrong if a server is killed, and another continues, or nothing."""
     with Place() as place:
         with place.server() as server:
             say(server.port, b"say hi")
@@ -144,7 +142,7 @@ def why_broken():
 
 
 def why_shared():
-    """What went otherwise where two servers want one journal; nothing where the second is refused."""
+    """Returns what went wrong if two servers use one journal, or nothing if the second is refused."""
     with Place(ANN) as place, place.server() as first:
         with place.server() as second:
             given = second.end()
@@ -156,7 +154,7 @@ def why_shared():
 
 
 def why_unprinted():
-    """What went otherwise where a total ends a server with a journal; nothing where its end is the journal's."""
+    """Returns what went wrong if a total ends a server with a journal, or nothing if its output is the journal's."""
     with Place() as place, place.server("--total", "1") as server:
         client = Client(server.port)
         for line in (b"connect Ann", b"say hi", b"quit"):
@@ -166,7 +164,7 @@ def why_unprinted():
 
 
 def why_slow():
-    """What went otherwise where the journal is as long as may be; nothing where the server starts soon."""
+    """Returns what went wrong if the journal is as long as possible, or nothing if the server starts soon."""
     with Place(said(MOST)) as place:
         began = time.monotonic()
         with place.server() as server:
@@ -175,27 +173,28 @@ def why_slow():
 
 
 def why_no_file(path, reason):
-    """What went otherwise where no journal can be at a path."""
+    """Returns what went wrong if no journal can be at a path, or nothing."""
     with Server(program("mud_serve"), ["--journal", path]) as server:
         given = server.end(), server.said()
         return "" if given == ((3, b""), b"mud_serve: cannot open journal: " + reason + b"\n") else f"{given}"
 
 
 def why_taken_special(make):
-    """What went otherwise where something that is no plain file has the name; nothing where it is refused at once."""
+    """Returns what went wrong if the name belongs to something that is not a plain file, or nothing if it is refused at
+    once."""
     with Place() as place:
         make(place.path)
         return why_no_file(place.path, b"not a plain file")
 
 
 def bound(path):
-    """A socket of this name."""
+    """Binds a socket with this name."""
     with socket.socket(socket.AF_UNIX) as made:
         made.bind(path)
 
 
 def why_large():
-    """What went otherwise where a file is larger than any journal; nothing where it is refused unread."""
+    """Returns what went wrong if a file is larger than any journal, or nothing if it is refused unread."""
     with Place(FIRST) as place:
         os.truncate(place.path, 2**40)
         return why_no_file(place.path, b"not a history")
@@ -206,9 +205,8 @@ def mode(path):
 
 
 def why_open_to_all():
-    """What went otherwise in the rights of a journal; nothing where a new one is its owner's, and one that is there
-    keeps its own.
-    """
+    """Returns what went wrong with the permissions of a journal, or nothing if a new one is its owner's, and an old one
+    keeps its own."""
     with Place() as place:
         for wanted in (0o600, 0o640):
             with place.server() as server:
@@ -219,7 +217,8 @@ def why_open_to_all():
 
 
 def why_unlinked():
-    """What went otherwise where the name is a symbolic link; nothing where the file that it leads to is the journal."""
+    """Returns what went wrong if the name is a symbolic link, or nothing if the file that it leads to is the
+    journal."""
     with Place() as place:
         folder = os.path.join(place.folder.name, "other")
         os.mkdir(folder)
@@ -233,9 +232,8 @@ def why_unlinked():
 
 
 def why_left_over():
-    """What went otherwise where a crash at a start left something beside the journal; nothing where that is gone, and
-    what a link there leads to is as it was.
-    """
+    """Returns what went wrong if a crash at a start left a file beside the journal, or nothing if that is gone, and the
+    target of a link there is unchanged."""
     with Place(ANN) as place:
         beside = place.path + ".start"
         for make in (lambda: os.symlink(place.whole, beside), lambda: shutil.copy(place.whole, beside)):
@@ -248,12 +246,12 @@ def why_left_over():
 
 
 def limit():
-    """Lets no file grow beyond so many bytes. A write that would is an error, since its signal is passed over."""
+    """Lets no file grow beyond this many bytes. A longer write is an error, because its signal is ignored."""
     resource.setrlimit(resource.RLIMIT_FSIZE, (LIMIT_BYTES, LIMIT_BYTES))
 
 
 def why_no_room():
-    """What went otherwise where a start can't write the journal anew; nothing where the old one stays whole, alone."""
+    """Returns what went wrong if a start can't rewrite the journal, or nothing if the old one stays whole, alone."""
     text = said(LIMIT_BYTES)
     with Place(text) as place, place.server(preexec_fn=limit, restore_signals=False) as server:
         given = server.end(), server.said(), place.text(), os.path.exists(place.path + ".start")
@@ -262,9 +260,7 @@ def why_no_room():
 
 
 def why_no_right(rights):
-    """What went otherwise where who starts the server may not write the journal or its folder; nothing where it is
-    refused.
-    """
+    """Returns what went wrong if the user may not write the journal or its folder, or nothing if it is refused."""
     with Place(ANN) as place:
         path = shutil.copy(program("mud_serve"), place.folder.name)
         for name, right in ((place.path, rights), (place.folder.name, 0o755), (path, 0o755)):
@@ -277,7 +273,7 @@ def why_no_right(rights):
 
 
 def why_no_port():
-    """What went otherwise where another server has the port; nothing where the journal is left as it is."""
+    """Returns what went wrong if another server has the port, or nothing if the journal is unchanged."""
     torn = ANN + b"3 1 sa"
     with Place(torn) as place, Server(program("mud_serve")) as first:
         words = ["--port", str(first.port), "--address", HOST, "--journal", place.path]

@@ -1,7 +1,6 @@
-"""The disk of a journal fails: each call for its file in turn, and where the file can't grow any more. Then each
-session is told so and ends, also one that reads nothing, and what anybody was told before is in the journal. After a
-power failure it is there, too, also where an earlier server could not sync what the last one read.
-"""
+"""The disk of a journal fails: each call for its file in turn, and when the file can't grow any more. Then each session
+gets a last line and ends, also one that reads nothing, and every version read before is in the journal. It is there
+after a power failure too, also if an earlier server could not sync the bytes that the last one read."""
 import collections
 import itertools
 import os
@@ -21,15 +20,15 @@ from harness.web import WebServer
 SAID, MOST_RUNS, FULL_BYTES = 6, 100, 400
 FAULT = b"(journal fault)"
 REPLY = re.compile(rb"\[(\d+)\] said")
-# Why a server does not begin, or has ended.
+# The messages of a server that does not start, or has ended.
 WORDS = re.compile(rb"mud_serve: (cannot open journal: file: (input or output failed|no locks|no space|file too large)"
                    rb"|journal fault)\n")
-# Which sync fails where pages are lost: one for the player, and one for what she says first, go well.
+# The sync that fails when pages are lost: one for the player, and one for the first line said, succeed.
 LOST_SYNC = 3
 
 
 def say(client, told):
-    """Says things, one after the other, until a line is not answered; the last line that came, or None at the end."""
+    """Says things, one after the other, until a line is not answered. Returns the last line, or None at the end."""
     for at in range(SAID):
         text = b"line %d" % at
         client.send(b"say " + text)
@@ -42,7 +41,8 @@ def say(client, told):
 
 
 def play(server, told):
-    """Two come to a server, and one of them says things; what each reads last, if all was not said."""
+    """Two clients connect to a server, and one says things. Returns the last line of each, if not everything was
+    said."""
     ann, bob = Client(server.port), Client(server.port)
     ann.line()
     bob.line()
@@ -58,7 +58,8 @@ def play(server, told):
 
 
 def trial(place, told, **how):
-    """A server over a disk that fails: its status, what it says, and what both read last, if it failed in play."""
+    """Runs a server over a failing disk. Returns its status, its message, and the last line of both clients, if it
+    failed during play."""
     with place.server("--total", "2", **how) as server:
         heard = play(server, told) if server.port is not None else []
         status, _ = server.end()
@@ -67,7 +68,7 @@ def trial(place, told, **how):
 
 
 def why_wrong(place, told, status, said, heard):
-    """What went otherwise; nothing where all is as it must be."""
+    """Returns what went wrong, or nothing."""
     if status == 0:
         return "" if heard == [] and not said else f"status 0, {said}, {heard}"
     if status != 3 or not WORDS.fullmatch(said):
@@ -79,7 +80,8 @@ def why_wrong(place, told, status, said, heard):
 
 
 def fail_in_turn():
-    """A run for each call. Answers how many there were, how many of them ended with a fault, and what is wrong."""
+    """Runs it once for each call. Returns the number of runs, the number that ended with a fault, and what went
+    wrong."""
     counted, wrong, felt = tempfile.NamedTemporaryFile(), [], 0
     for call in itertools.count(1):
         counted.truncate(0)
@@ -95,12 +97,13 @@ def fail_in_turn():
 
 
 def limit():
-    """Lets no file grow beyond so many bytes. A write that would is an error, since the signal of it is passed over."""
+    """Lets no file grow beyond this many bytes. A longer write is an error, because its signal is ignored."""
     resource.setrlimit(resource.RLIMIT_FSIZE, (FULL_BYTES, FULL_BYTES))
 
 
 def why_unfilled():
-    """What went otherwise where the disk is full; nothing where all were told so, and the next server goes on."""
+    """Returns what went wrong if the disk is full, or nothing if every client was told so, and the next server
+    continues."""
     told = Told()
     with Place() as place:
         for _ in range(SAID):
@@ -116,9 +119,8 @@ def why_unfilled():
 
 
 def why_stuck():
-    """What went otherwise where the disk fails while a client sends without end and reads nothing; nothing where the
-    server ends.
-    """
+    """Returns what went wrong if the disk fails while a client sends without end and reads nothing, or nothing if the
+    server ends."""
     with Place() as place, place.server(preexec_fn=limit, restore_signals=False) as server:
         mute, ann = Client(server.port, seconds=1), Client(server.port)
         try:
@@ -138,9 +140,8 @@ def why_stuck():
 
 
 def why_untold_on_the_web():
-    """What went otherwise where the disk is full while one plays on the web; nothing where that is the last he reads,
-    and the server closes his web socket since it ends.
-    """
+    """Returns what went wrong if the disk is full while a client plays on the web, or nothing if that is its last line,
+    and the server closes the web socket because it ends."""
     how = {"preexec_fn": limit, "restore_signals": False}
     with Place() as place, WebServer("--journal", place.path, "--total", "1", **how) as server:
         ann, line = server.player(b"Ann"), b""
@@ -154,7 +155,8 @@ def why_untold_on_the_web():
 
 
 def kept_of(path, note):
-    """What a power failure leaves of a file, by the note of the library `lose_pages`; None where its name is lost."""
+    """Returns the contents of a file after a power failure, by the note of the library `lose_pages`, or None if its
+    name is lost."""
     written, kept = collections.defaultdict(list), collections.defaultdict(list)
     named, is_named = os.stat(path).st_ino, True
     for word, *numbers in (line.split() for line in read(note).decode().splitlines()):
@@ -181,9 +183,8 @@ def kept_of(path, note):
 
 
 def why_forgotten():
-    """What went otherwise where a sync fails, another server goes on, and the power fails; nothing where all that
-    anybody was told is there then.
-    """
+    """Returns what went wrong if a sync fails, another server continues, and the power fails, or nothing if every
+    version read is there then."""
     told = Told()
     with Place() as place:
         note = os.path.join(place.folder.name, "note")

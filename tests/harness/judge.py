@@ -1,7 +1,8 @@
-"""Judges what the clients of one server read by the history that it printed, and by docs/ (plain_world.py).
+"""Judges the output of one server's clients by the printed history, and by docs/ (plain_world.py).
 
-Each reply is right in the world of the version that it names; each entry of the history is the accepted line of one
-session, and was answered once; each session reads what its player hears, each once, in order, and none is skipped.
+Each reply is right in the world of the version that it names. Each entry of the history is the accepted line of one
+session, and was answered once. Each session reads the notices that its player hears, each once, in order, and misses
+none.
 """
 import re
 from collections import defaultdict
@@ -13,7 +14,7 @@ QUESTIONS = ("look", "l", "inventory", "inv", "i", "@key", "route", "meet", "pro
 
 
 def entries_of(history):
-    """The desk and the change of each entry of a history's text, or None where it is not whole."""
+    """Returns the desk and the change of each entry of a history's text, or None if it is not whole."""
     lines = history.split("\n")
     found = [re.fullmatch(r"([0-9]+) ([0-9]+) (.*)", line) for line in lines[1:-2]]
     if lines[0] != "mud history 2" or lines[-2:] != [f"end {len(found)}", ""] or not all(found):
@@ -24,14 +25,14 @@ def entries_of(history):
 
 
 class Judge:
-    """Goes through a history once, and holds each answer against the world of its version."""
+    """Goes through a history once, and compares each answer with the world of its version."""
 
     def __init__(self, entries, sessions, capacity=65_536, loaded=0):
         self.entries, self.capacity, self.loaded = entries, capacity, loaded
         self.readings = [Reading(session) for session in sessions]
         self.faults = [f"session {at}: {it}" for at, one in enumerate(self.readings, 1) for it in one.faults]
         self.claims, self.answers = {}, defaultdict(list)
-        # from which version a session hears as which player, and up to which; the next to begin stands last
+        # the versions from which and up to which a session hears as a player; the next one to begin is last
         spans = ((*span, reading) for reading in self.readings for span in reading.spans)
         self.to_come, self.hearing = sorted(spans, key=lambda span: -span[0]), []
         self.sort_out()
@@ -42,7 +43,7 @@ class Judge:
         self.faults.append(f"session {self.readings.index(reading) + 1}: {text}")
 
     def sort_out(self):
-        """Which reply says that an entry was accepted, and which one is an answer in a world."""
+        """Separates the replies that accept an entry from the answers in a world."""
         arrivals = []
         for reply in (it for reading in self.readings for it in reading.replies):
             text, version = reply.lines[0], reply.version
@@ -58,7 +59,8 @@ class Judge:
         self.sort_out_arrivals(arrivals)
 
     def sort_out_arrivals(self, arrivals):
-        """Which welcome is of a new player. It may be of one who came in with this very change, at another desk."""
+        """Finds the welcome of a new player. It may belong to a session that connected with this very change, at
+        another desk."""
         for reply in sorted(arrivals, key=lambda it: it.session.desk is None):
             desk, change = self.entries[reply.version - 1]
             is_new = change.startswith("player ") and reply.lines[0] == f"welcome {change.split(' ')[1]}"
@@ -69,11 +71,11 @@ class Judge:
 
     @staticmethod
     def asks(reply):
-        """Whether it answers a question."""
+        """Returns whether it answers a question."""
         return reply.line.split(" ", 1)[0].lower() in QUESTIONS
 
     def claim(self, reply):
-        """An entry is the accepted line of this session."""
+        """Claims an entry as the accepted line of this session."""
         if reply.version in self.claims:
             self.fault(reply.session, f"{reply.line!r} is accepted as {reply.version}, and so is another line")
         self.claims[reply.version] = reply
@@ -83,7 +85,7 @@ class Judge:
         reply.session.desk = desk
 
     def judge_desks(self):
-        """Of two sessions at one desk, one is over before the other's first change."""
+        """Checks that of two sessions at one desk, one is over before the other's first change."""
         spans = defaultdict(list)
         for reading in self.readings:
             own = [version for version, reply in self.claims.items() if reply.session is reading]
@@ -96,7 +98,7 @@ class Judge:
         ]
 
     def go_through(self):
-        """The worlds of the history, one after the other."""
+        """Goes through the worlds of the history, in order."""
         world = World()
         for version, (_, change) in enumerate(self.entries):
             self.judge_answers(world, version)
@@ -106,17 +108,17 @@ class Judge:
         self.judge_rest()
 
     def judge_rest(self):
-        """The answers in no world of the history."""
+        """Judges the answers in no world of the history."""
         for reply in (it for replies in self.answers.values() for it in replies):
             self.fault(reply.session, f"{reply.line!r} is answered at {reply.version}, beyond the history")
 
     def judge_answers(self, world, version):
-        """All answers in this world."""
+        """Judges all answers in this world."""
         for reply in self.answers.pop(version, []):
             self.judge_answer(world, reply)
 
     def judge_answer(self, world, reply):
-        """An answer in this world."""
+        """Judges an answer in this world."""
         kind, what = decide(world, reply.player, reply.line)
         wanted = {
             "change": [FULL],
@@ -129,13 +131,13 @@ class Judge:
             self.fault(reply.session, f"{reply.line!r} is answered {given} at {reply.version}, and not {wanted}")
 
     def judge_change(self, world, version):
-        """The change of this version, which is not yet made: who was answered, and who heard of it."""
+        """Judges the change of this version before it is made: its reply, and its notices."""
         change = self.entries[version - 1][1]
         self.judge_claim(world, version, change)
         self.judge_notices(world, version, change)
 
     def judge_claim(self, world, version, change):
-        """Who was answered."""
+        """Judges the reply."""
         reply = self.claims.get(version)
         if reply is not None:
             decided = decide(world, reply.player, reply.line)
@@ -145,7 +147,7 @@ class Judge:
             self.faults.append(f"{version} ({change}) was answered to nobody")
 
     def judge_notices(self, world, version, change):
-        """Who heard of it."""
+        """Judges the notices."""
         reply = self.claims.get(version)
         self.hearing = self.hearing_at(version)
         for _, _, player, reading in self.hearing:
@@ -155,13 +157,14 @@ class Judge:
                 self.fault(reading, f"of {version} it hears {reading.heard.get(version)!r}, and not {wanted!r}")
 
     def hearing_at(self, version):
-        """Which sessions hear of this version: those that have a player before it, and still have that player at it."""
+        """Returns the sessions that hear of this version: those with the same player before it and at it."""
         while self.to_come and self.to_come[-1][0] < version:
             self.hearing.append(self.to_come.pop())
         return [span for span in self.hearing if version <= span[1]]
 
     def is_of_a_broken(self, world, change):
-        """Whether the change is that of a line whose answer was lost with its session; each is so once."""
+        """Returns whether the change belongs to a line whose answer was lost with its session; each such line counts
+        once."""
         for reading in self.readings:
             if reading.left is not None and reading.session.is_broken:
                 if decide(world, reading.player, reading.left) == ("change", change):
@@ -171,7 +174,7 @@ class Judge:
 
 
 def judge(history, sessions, **more):
-    """The faults that are found, as texts; a line of a kind that is not known here is one, too."""
+    """Returns the faults, as texts; a line of an unknown kind is one too."""
     entries = entries_of(history)
     if entries is None:
         return ["what was printed is no whole history"], []

@@ -1,7 +1,6 @@
-"""mud_keep over random histories of all kinds of change, judged by the plain world: what it shows is the world, what it
-recovers of a cut journal are the lines that are whole, what it shortens is legal, no longer, without talk, and of the
-same world, and what it draws has the rooms and exits.
-"""
+"""mud_keep over random histories of all kinds of change, judged by the plain world. Its table is the world, and the
+history recovered from a cut journal has the complete lines. A shorter history is legal, no longer, without talk, and of
+the same world. A map has the rooms and exits."""
 import random
 import re
 import resource
@@ -21,37 +20,18 @@ SECONDS = 120
 SEEDS = 40
 CHANGES = 300
 MOST = 65536
-# What it may take of memory while it shortens.
+# The memory that it may use while it shortens.
 MEMORY = 200_000_000
 WORDS = ("ada", "box", "cup", "den", "elm", "fig", "gem", "hat", "ink", "jar")
 
 
 def numbers_of(rest):
-    """The numbers of the objects in a change, but for those in names."""
+    """Returns the numbers of the objects in a change, except those in names."""
     return [int(it) for it in re.findall(r"#([0-9]+)", "".join(rest.split('"')[::2]))]
 
 
 class Kept(World):
     """A world that knows each kind of change, and whether one is legal."""
-
-    def do_dig(self, actor, rest, numbers):
-        if rest.startswith("new"):
-            super().do_dig(actor, rest, numbers)
-            return
-        here, names = self.all[actor].place, [it.split(",") for it in rest.split('"')[1::2]]
-        self.add("exit", names[0], actor, source=here, to=numbers[0])
-        if len(names) > 1:
-            self.add("exit", names[1], actor, source=numbers[0], to=here)
-
-    def do_rename(self, _, rest, numbers):
-        self.all[numbers[0]].names = rest.split('"')[1].split(",")
-
-    def do_recycle(self, _, __, numbers):
-        thing = self.all.pop(numbers[0])
-        if thing.place is not None:
-            self.all[thing.place].contents.remove(thing.number)
-        if thing.source is not None:
-            self.all[thing.source].leaving.remove(thing.number)
 
     def owns(self, actor, number):
         return number in self.all and (actor == 1 or self.all[number].owner == actor)
@@ -64,7 +44,7 @@ class Kept(World):
         return not taken & {name.lower() for name in names}
 
     def fits(self, change):
-        """Whether the change is legal."""
+        """Returns whether the change is legal."""
         word, actor, rest = change.split(" ", 2)
         actor, numbers = int(actor[1:]), numbers_of(rest) if word not in ("say", "emote") else []
         if word == "player":
@@ -128,7 +108,7 @@ class Kept(World):
         return not ends and not self.all[number].contents
 
     def table(self):
-        """The world as docs/KEEPING.md says that it is shown."""
+        """Returns the world as a table, as docs/KEEPING.md defines it."""
         rows = [self.row(self.all[number]) for number in sorted(self.all)]
         return "".join(f"{row}\n" for row in [*rows, f"next #{self.next}"])
 
@@ -151,7 +131,7 @@ class Author:
         return spelled([f"{word} {self.chance.randrange(30)}" for word in chosen])
 
     def number(self, *kinds):
-        """The number of an object of these kinds; now and then any."""
+        """Returns the number of an object of these kinds, and now and then any number."""
         among = [it for it, one in self.world.all.items() if one.kind in kinds]
         return self.chance.choice(among or [0])
 
@@ -162,12 +142,12 @@ class Author:
         return f"{first} {self.chance.choice(('&&', '||'))} #{self.number('player', 'thing')}"
 
     def near(self, actor):
-        """A place that the actor may give a thing."""
+        """Returns a place to which the actor may give a thing."""
         here = self.world.all[actor].place
         return self.chance.choice([actor, here, *self.world.all[here].contents, *self.world.all[actor].contents])
 
     def change(self):
-        """A change that may be legal."""
+        """Returns a change that may be legal."""
         chance, actor = self.chance, self.number("player")
         word = chance.choice(
             ["walk"] * 6 + ["move"] * 6 + ["say", "emote", "make", "make", "dig", "old", "lock", "unlock"]
@@ -194,7 +174,7 @@ class Author:
         return f"{'dig' if word == 'old' else word} #{actor} {rest}"
 
     def write(self, count):
-        """So many changes, each legal; the text of the history."""
+        """Returns the text of a history of this many changes, each legal."""
         while len(self.lines) < count:
             change = self.change()
             if self.world.fits(change):
@@ -208,14 +188,14 @@ def history_of(lines):
 
 
 def kept(wish, text, *words):
-    """What mud_keep answers: its status, its text, and what it tells beside it."""
+    """Returns the result of mud_keep: its status, its text, and its notes."""
     command = [program("mud_keep"), wish, *(words or ["-"])]
     ran = subprocess.run(command, input=text, capture_output=True, timeout=SECONDS, check=False)
     return ran.returncode, ran.stdout, ran.stderr
 
 
 def world_of(text):
-    """The world of a history, each change of which must be legal, and its changes."""
+    """Returns the world of a history whose changes must all be legal, and its changes."""
     lines = text.decode().splitlines()
     assert lines[0] == "mud history 2" and lines[-1] == f"end {len(lines) - 2}", "no history"
     world, changes = Kept(), []
@@ -229,7 +209,7 @@ def world_of(text):
 
 
 def fault_of_shorter(text, world, count):
-    """What is wrong with how a history of this world and so many changes is shortened, if anything is."""
+    """Returns what is wrong with the shorter history of this world and this many changes, if anything is."""
     status, shorter, told = kept("shorten", text)
     if status != 0:
         return f"status {status}: {told}"
@@ -270,18 +250,18 @@ def keep(count):
 
 
 def journal_of(changes):
-    """A random journal of so many changes."""
+    """Returns a random journal of this many changes."""
     return Author(0).write(changes).rsplit(b"end ", 1)[0]
 
 
 def whole_lines(journal):
-    """The history of the whole lines of a cut journal, and how many bytes those lines take."""
+    """Returns the history of the complete lines of a cut journal, and the number of their bytes."""
     whole = journal[: journal.rfind(b"\n") + 1]
     return history_of([it.decode() for it in whole.splitlines(keepends=True)[1:]]), len(whole)
 
 
 def recovers(count):
-    """A journal that is cut at each of its bytes. Within its first line it is no world."""
+    """Counts a journal cut at each of its bytes. Inside its first line it is not a world."""
     journal = journal_of(6)
     first, faults = journal.find(b"\n"), []
     for text in (*(journal[:cut] for cut in range(1, first + 1)), bytes(14), bytes(600) + b"x\n"):
@@ -304,7 +284,7 @@ def recovers(count):
 
 
 def zeros(count):
-    """A journal behind which a disk left zeros, and lines behind those."""
+    """Counts a journal after which a disk left zeros, and lines after those."""
     journal = journal_of(6)
     history, whole = whole_lines(journal)
     for name, behind in (("zeros", bytes(40)), ("a torn line", b"7 1 sa\0\0"), ("a line", b"\0" + b"7 1 say #1 hi\n")):
@@ -317,13 +297,13 @@ def zeros(count):
 
 
 def saved(lines, behind):
-    """What is answered where these lines of a journal are right, and this stands behind them."""
+    """Returns the answer if these lines of a journal are right, and this follows them."""
     told = f"left out: {len(behind)} bytes from line {len(lines) + 1} on\n".encode()
     return 0, history_of([line.decode() for line in lines[1:]]), told
 
 
 def fronts(count):
-    """A journal with a bad line at each place: all before it is saved, and what is left out is told."""
+    """Counts a journal with a bad line at each place: everything before it is saved, and the rest is reported."""
     lines = journal_of(6).splitlines(keepends=True)
     for bad in (b"no line\n", b"\xff\0\n", lines[1], b"end 6\n", b"\r\n", b"torn"):
         faults = []
@@ -341,7 +321,7 @@ def fronts(count):
 
 
 def line_ends(count):
-    """Histories and certificates whose lines end with CR LF, and a journal, in which a CR is no byte of a line."""
+    """Counts histories and certificates whose lines end with CR LF, and a journal, in which a CR belongs to no line."""
     text = Author(2).write(20)
     returned = text.replace(b"\n", b"\r\n")
     for wish in ("shorten", "show", "map"):
@@ -358,7 +338,7 @@ def line_ends(count):
 
 
 def cut_histories(count):
-    """A history that is cut at each byte of its last two lines, and no bytes: neither is a smaller world."""
+    """Counts a history cut at each byte of its last two lines, and an empty one: neither is a smaller world."""
     text = Author(3).write(8)
     start = text.rindex(b"\n8 ")
     for wish in ("shorten", "show", "map"):
@@ -370,7 +350,7 @@ def cut_histories(count):
 
 
 def gone(count):
-    """Things that were made and recycled, and rooms with exits: three numbers are had by one change."""
+    """Counts things that were made and recycled, and rooms with exits: one change takes three numbers."""
     for number in (1, 2, 3, 9, 10):
         lines = [f'{2 * it + 1} 1 make #1 "a"\n{2 * it + 2} 1 recycle #1 #{it + 2}\n' for it in range(number)]
         text = "".join(["mud history 2\n", *lines, f"end {2 * number}\n"]).encode()
@@ -393,7 +373,7 @@ def gone(count):
 
 
 def bad_texts(count):
-    """Texts of each kind that can't be read, and the empty history."""
+    """Counts unreadable texts of each kind, and the empty history."""
     hello = b"mud history 2\n1 1 say #1 hello\n"
     cases = (
         ("not a history", b"mud histories 2\n"),
@@ -420,12 +400,12 @@ def bad_texts(count):
 
 
 def example(name):
-    """The path of a file of the example."""
+    """Returns the path of a file of the example."""
     return f"{TOP}/examples/journeys.{name}"
 
 
 def maps(count):
-    """The map of the example, with its certificate and without, and what is told where there is none."""
+    """Counts the map of the example, with its certificate and without, and the messages if there is none."""
     history, proof, wanted = (read(example(name)) for name in ("history", "proof", "dot"))
     given = kept("map", b"", example("history"), example("proof"))
     count("map: with a certificate", given == (0, wanted, b""), given)
@@ -452,7 +432,7 @@ def maps(count):
 
 
 def goes_on():
-    """Whether a server goes on from a shortened history, and what it printed."""
+    """Returns whether a server continues a shortened history, and its output."""
     shorter = kept("shorten", Author(1).write(CHANGES))[1]
     lines = shorter.splitlines(keepends=True)[1:-1]
     number = world_of(shorter)[0].next
@@ -512,7 +492,7 @@ class Crowd:
             self.holder[thing] = goal
 
     def write(self, count):
-        """So many changes, each legal; the text of the history."""
+        """Returns the text of a history of this many changes, each legal."""
         while len(self.lines) < count:
             player, kind = self.chance.choice(list(self.place)), self.chance.random()
             if kind < 0.45:
@@ -525,7 +505,7 @@ class Crowd:
 
 
 def built(changes):
-    """A history of a world that was only built: no walk, nothing that was done twice."""
+    """Returns a history of a world that was only built: no walk, and nothing done twice."""
     crowd = Crowd(changes, rooms=1, things=0)
     for room in range(65, 65 + 3 * changes, 3):
         crowd.dig(room)
@@ -533,7 +513,7 @@ def built(changes):
 
 
 def shortened_within(text):
-    """What mud_keep answers where it has 200 MB, and the seconds that it took."""
+    """Returns the result of mud_keep with 200 MB, and the seconds that it took."""
     began = time.monotonic()
     ran = subprocess.run(
         [program("mud_keep"), "shorten", "-"], input=text, capture_output=True, timeout=SECONDS, check=False,
@@ -560,7 +540,7 @@ def keep_full(count):
 
 
 def drawn(text):
-    """How many nodes and edges Graphviz finds in a graph."""
+    """Returns the numbers of nodes and edges that Graphviz finds in a graph."""
     ran = subprocess.run(["dot", "-Tplain"], input=text, capture_output=True, timeout=SECONDS, check=True)
     words = [line.split(b" ", 1)[0] for line in ran.stdout.splitlines()]
     return words.count(b"node"), words.count(b"edge")

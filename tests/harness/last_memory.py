@@ -1,7 +1,6 @@
-"""A server ends in little memory: from the moment in which it is told to end it may have half a megabyte more than it
-has, and no more. Then it prints its whole history. Where it may have nothing more it may end with its words instead,
-and what it printed is then a front of that.
-"""
+"""A server ends in little memory: from the moment in which it is told to end it may use half a megabyte more, and no
+more. It then prints its whole history. With nothing more it may end with its message instead, and its output is then a
+prefix of that."""
 import struct
 import tempfile
 
@@ -11,21 +10,21 @@ from harness.preload import library
 from harness.programs import program
 from harness.server import Client, Server
 
-# How many texts the history has, how long each is, and how many players sit at a desk each.
+# The number and the length of the texts in the history, and the number of players, each at a desk.
 CHANGES, LENGTH, PLAYERS = 6000, 880, 4
 HALF_A_MEGABYTE = 524_288
 STATUSES = {HALF_A_MEGABYTE: [0], 1: [0, 4]}
 
 
 def said():
-    """A history of texts, before its last line."""
+    """Returns a history of texts, before its last line."""
     text = "x" * LENGTH
     lines = ['mud history 2', '1 1 player #2 "Ann"', *[f'{n} 1 say #2 "{text}"' for n in range(2, CHANGES + 1)]]
     return "".join(f"{line}\n" for line in lines).encode()
 
 
 def arrive(port):
-    """A client who is Ann, and has said something."""
+    """Returns a client that is Ann, and has said something."""
     client = Client(port)
     client.send(b"connect Ann")
     client.send(b"say hi")
@@ -35,7 +34,7 @@ def arrive(port):
 
 
 def why_wrong(room):
-    """What went otherwise where a server may have so many bytes more at its end; nothing where all is right."""
+    """Returns what went wrong if a server may use this many bytes more at its end, or nothing."""
     with tempfile.NamedTemporaryFile() as file, tempfile.NamedTemporaryFile() as ceiling:
         file.write(ended(said()))
         file.flush()

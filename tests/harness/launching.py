@@ -16,7 +16,7 @@ from harness.server import Client, Server
 
 LAUNCH, SERVE = (f"{TOP}/packaging/{name}" for name in ("launch", "serve"))
 SHELLS = {"dash": ["dash"], "bash": ["bash", "--posix"], "busybox": ["busybox", "sh"]}
-# How long a stop takes at most.
+# The longest time of a stop.
 STOP_SECONDS = 3
 
 
@@ -35,7 +35,7 @@ class Launched(Server):
         super().__init__(self.written(), words, environment={"RUNTIME_DIRECTORY": folder}, **how)
 
     def written(self):
-        """A script that runs the launcher: a `Server` is one word."""
+        """Writes a script that runs the launcher: a `Server` is one word."""
         path = f"{self.folder}/launched"
         with open(path, "w") as file:
             words = " ".join(f"'{word}'" for word in [*self.shell, program("mud_serve")])
@@ -45,7 +45,7 @@ class Launched(Server):
 
 
 def why_not_stopped(shell, number, before=(), times=1):
-    """What goes otherwise where the launcher gets this signal so many times; nothing where all ends in order."""
+    """Returns what goes wrong if the launcher gets this signal this number of times; nothing if all ends in order."""
     with tempfile.TemporaryDirectory() as folder, Launched(shell, folder, before=before) as server:
         client, began = visited(server.port), time.monotonic()
         for _ in range(times):
@@ -58,13 +58,13 @@ def why_not_stopped(shell, number, before=(), times=1):
 
 
 def shell_of(server):
-    """The number of the process below `unshare`, which is process 1 to itself."""
+    """Returns the number of the process below `unshare`, which is process 1 to itself."""
     with open(f"/proc/{server.process.pid}/task/{server.process.pid}/children") as file:
         return int(file.read().split()[0])
 
 
 def why_not_by_pipe(shell):
-    """What goes otherwise where `stop` is written to the pipe; nothing where the server ends."""
+    """Returns what goes wrong after `stop` in the pipe; nothing if the server ends."""
     with tempfile.TemporaryDirectory() as folder, Launched(shell, folder) as server:
         client, mode = visited(server.port), os.stat(f"{folder}/console").st_mode & 0o777
         with open(f"{folder}/console", "w") as pipe:
@@ -74,7 +74,7 @@ def why_not_by_pipe(shell):
 
 
 def why_not_killed(shell):
-    """What goes otherwise where the server is killed; nothing where the launcher ends and says by what."""
+    """Returns what goes wrong if the server is killed; nothing if the launcher ends and names the signal."""
     with tempfile.TemporaryDirectory() as folder, Launched(shell, folder) as server:
         Client(server.port).close()
         os.kill(shell_of(server), signal.SIGKILL)
@@ -83,14 +83,14 @@ def why_not_killed(shell):
 
 
 def why_not_refused(shell):
-    """What goes otherwise where the server refuses its words; nothing where its status is kept, and no pipe."""
+    """Returns what goes wrong if the server refuses its words; nothing if its status is kept, and no pipe is left."""
     with tempfile.TemporaryDirectory() as folder, Launched(shell, folder, ["--no-such-word"]) as server:
         status, left = server.end()[0], os.path.exists(f"{folder}/console")
         return "" if (status, left) == (2, False) else f"{status} {left}"
 
 
 def launches(count, name, shell):
-    """The tests in one shell."""
+    """Counts the tests in one shell."""
     for number in (signal.SIGTERM, signal.SIGINT):
         count.tries(f"launcher: {number.name} in {name}", why_not_stopped, shell, number)
     count.tries(f"launcher: SIGTERM three times in {name}", why_not_stopped, shell, signal.SIGTERM, times=3)
@@ -122,7 +122,7 @@ BAD += ['address = "127', "address = local"]
 
 
 def served(options, folder):
-    """What `serve` came to with these options: its status, the words that the program got, what was said."""
+    """Returns the result of `serve` with these options: its status, the words that the program got, its output."""
     for path, text in (("program", '#!/bin/sh\nprintf "%s\\n" "$@"\n'), ("serve.toml", options)):
         with open(f"{folder}/{path}", "w") as file:
             file.write(text)
@@ -133,7 +133,7 @@ def served(options, folder):
 
 
 def count_served(count):
-    """Files with options."""
+    """Tests files with options."""
     with tempfile.TemporaryDirectory() as folder:
         given = served(OPTIONS, folder)
         count("serve: options", given == (0, WORDS, ""), given)

@@ -1,7 +1,6 @@
-"""What a line of a player costs: how many instructions callgrind counts for it. A script with some lines is given to a
-program, and one with more of them; what the further lines add is shared out among them, so the lines that build the
-world don't count. Three lines have a bound here; `bench/lines` has more of them, beside a plain program.
-"""
+"""The cost of a player's line: the number of instructions that callgrind counts for it. A program gets a script with
+some lines, and one with more of them; the difference is divided by their number, so the lines that build the world
+don't count. Three lines have a bound here; `bench/lines` has more of them, beside a plain program."""
 import re
 import shutil
 import subprocess
@@ -14,10 +13,10 @@ from harness.parts import Skipped, part
 from harness.programs import program
 
 SECONDS = 600
-# A line may cost so many times its bound: compilers differ a little.
+# The tolerance of a bound: compilers differ a little.
 SLACK = 1.3
 TOTAL = re.compile(rb"^totals: (\d+)", re.M)
-# How many rooms the ring has, and how many further on its chords lead.
+# The number of rooms in the ring, and how far its chords lead.
 ROOMS, FURTHER = 1200, 35
 
 
@@ -26,9 +25,8 @@ class NotCounted(Exception):
 
 
 class Line(NamedTuple):
-    """What is shown; the lines that build the world; those that are counted, which are given by turns; how many of them
-    the shorter script has, and how many more the longer one.
-    """
+    """The case; the lines that build the world; the counted lines, which take turns; their number in the shorter
+    script, and the further ones in the longer script."""
 
     what: str
     world: list
@@ -37,18 +35,18 @@ class Line(NamedTuple):
     more: int = 1000
 
     def script(self, times):
-        """The input of a script with so many of the lines that are counted."""
+        """Returns the input of a script with this many of the counted lines."""
         lines = [*self.world, *islice(cycle(self.asked), times)]
         return "".join(f"{line}\n" for line in lines).encode()
 
 
 def needs_valgrind():
-    """Whether there is nothing to count with."""
+    """Returns whether callgrind is missing."""
     return not shutil.which("valgrind")
 
 
 def counted(command, text):
-    """How many instructions a program takes for an input, and what it answers."""
+    """Returns the number of instructions of a program for an input, and its output."""
     with tempfile.TemporaryDirectory() as folder:
         report = f"{folder}/report"
         valgrind = ["valgrind", "--tool=callgrind", f"--callgrind-out-file={report}", *command]
@@ -60,16 +58,15 @@ def counted(command, text):
 
 
 def cost_of(command, line):
-    """How many instructions one more line takes, and what the longer script is answered."""
+    """Returns the number of instructions of one more line, and the output of the longer script."""
     fewer, _ = counted(command, line.script(line.fewer))
     all_of_them, told = counted(command, line.script(line.fewer + line.more))
     return (all_of_them - fewer) / line.more, told
 
 
 def ring():
-    """The lines that build a ring of rooms: from each an exit leads to the next, and a chord to one further on. Room n
-    is object 2n, the first is the hall, and there the player stands at the end.
-    """
+    """Returns the lines that build a ring of rooms: from each an exit leads to the next, and a chord to one further on.
+    Room n is object 2n, the first is the hall, and the player is there at the end."""
     lines = [line for room in range(1, ROOMS) for line in (f'@dig next to "R{room}"', "go next")]
     lines += ["@dig next to #0", "go next"]
     chords = (f"@dig chord to #{2 * ((room + FURTHER) % ROOMS)}" for room in range(ROOMS))
@@ -77,14 +74,14 @@ def ring():
 
 
 def ring_routes():
-    """Routes to rooms here and there in the ring."""
+    """Returns routes to rooms here and there in the ring."""
     return [f"route to #{2 * (977 * turn % ROOMS)}" for turn in range(1, ROOMS)]
 
 
 SAY = Line("say hello there everybody", [], ["say hello there everybody"])
 GO = Line("go X, there and back", ['@dig there|back to "Another room"'], ["go there", "go back"])
 RING = Line("route in a ring with chords", ring(), ring_routes(), fewer=5, more=20)
-# A line, the most instructions that it takes, and how its answer begins.
+# A line, its greatest number of instructions, and the beginning of its answer.
 BOUNDS = [
     (SAY, 4_600, "said"),
     (GO, 4_600, "went by #"),
@@ -93,7 +90,7 @@ BOUNDS = [
 
 
 def why_dear(line, bound, right):
-    """Why a line is answered wrong or costs too much; nothing where it doesn't."""
+    """Returns why a line has a wrong answer or costs too much, or nothing."""
     cost, told = cost_of([program("mud_serve"), "script"], line)
     answer = told.decode().splitlines()[-1].partition(" ")[2]
     if not answer.startswith(right):

@@ -1,4 +1,4 @@
-"""The pages of the manual and the completions of a release, held against what the programs answer to `--help`."""
+"""The pages of the manual and the completions of a release, compared with the `--help` of the programs."""
 import contextlib
 import fcntl
 import os
@@ -17,33 +17,33 @@ from harness.inputs import read
 from harness.packages import PAGES, PROGRAMS, unpacked
 from harness.parts import part
 
-# A row of help: an option with its value, or a file; and what is said of it.
+# A row of help: an option with its value, or a file; and its text.
 ROW = re.compile(r"^ +(?:-\w, )?(--[\w-]+|<\w+>|\[\w+\])(?: <(\w+)>)? {2,}(.*)$", re.M)
-# An item of a page, or a line of its synopsis, and what stands below an item.
+# An item of a page, or a line of its synopsis, and the text below an item.
 ITEM = re.compile(r"^\.It (?:Fl -([\w-]+)|Ar (\w+))(?: Ar (\w+))?\n((?:(?!\.It|\.El).*\n)*)", re.M)
 SYNOPSIS = re.compile(r"^\.(Op )?(?:Fl -([\w-]+)(?: Ar (\w+))?|Ar (\w+))$", re.M)
 REFERENCE = re.compile(r"referenced manual not found: Xr (\S+) (\d)")
-# An option with its value in a usage: it must be there.
+# A required option with its value in a usage.
 NEEDED = re.compile(r"(--[\w-]+) <(\w+)>")
 COMMON = ("--help", "--version")
-# How large a terminal is in which zsh lists everything.
+# The size of a terminal in which zsh lists everything.
 ROWS, COLUMNS = 200, 200
 SECONDS, TRIES = 20, 20
 
 
 def forms():
-    """Each program with each of its forms; a form that is empty has the options of the program itself."""
+    """Returns each program with each of its forms; an empty form has the options of the program itself."""
     return [(name, form) for name, (words, _) in FORMS.items() for form in words]
 
 
 def rows_of(name, form):
-    """What help tells of a form: each option or file with its value and its text."""
+    """Returns the help of a form: each option or file with its value and its text."""
     _, text, _ = given(name, [*form.split(), "--help"])
     return {what.strip("<>[]"): (value, text) for what, value, text in ROW.findall(text)}
 
 
 def required_of(name, form):
-    """What must be there by the usage of a form."""
+    """Returns the required options by the usage of a form."""
     _, text, _ = given(name, [*form.split(), "--help"])
     usage = re.search(r"^Usage: (.*)$", text, re.M)[1].replace("<COMMAND>", "")
     options = {option for option, _ in NEEDED.findall(usage)}
@@ -54,27 +54,27 @@ def required_of(name, form):
 
 
 def plain(text):
-    """A text of a page without its escapes and line ends."""
+    """Returns a text of a page without its escapes and line ends."""
     for escape, letter in (("\\(oq", "`"), ("\\(cq", "`"), ("\\-", "-")):
         text = text.replace(escape, letter)
     return " ".join(text.split())
 
 
 def told(row):
-    """What a page says of a row of help: a sentence, and one more for its default."""
+    """Returns the text of a page for a row of help: a sentence, and one more for its default."""
     text, _, default = row.removesuffix("]").partition(" [default: ")
     return f"{text}." + (f" The default is {default}." if default else "")
 
 
 def section_of(page, name, form):
-    """What a page says of a form."""
+    """Returns the text of a page for a form."""
     if form:
         return re.search(rf"^\.Ss {name} {form}$(.*?)^(?=\.S[sh])", page, re.M | re.S)[1]
     return page
 
 
 def count_page(count, name, form, page):
-    """The options of a form on its page: the same with the same texts, and in the synopsis those that must be there."""
+    """Tests that the page of a form has the options and texts of its help, and in its synopsis the required ones."""
     section, rows = section_of(page, name, form), rows_of(name, form)
     items = {f"--{flag}" if flag else file: (value, plain(text)) for flag, file, value, text in ITEM.findall(section)}
     wanted = {what: (value, told(text)) for what, (value, text) in rows.items() if what not in COMMON}
@@ -86,7 +86,7 @@ def count_page(count, name, form, page):
 
 
 def complaints(path):
-    """What mandoc and man say of a page; what they miss are the other pages, which are not installed here."""
+    """Returns the complaints of mandoc and man about a page, except those about other pages: none is installed here."""
     said = ""
     if shutil.which("mandoc"):
         lint = subprocess.run(["mandoc", "-Tlint", path], capture_output=True, text=True).stdout.splitlines()
@@ -117,19 +117,19 @@ def manual(count):
 
 
 def bash_offers(path, words, folder):
-    """What bash offers for the last of these words, in a folder."""
+    """Returns the offers of bash for the last of these words, in a folder."""
     script = 'source "$1"; shift; COMP_WORDS=("$@"); COMP_CWORD=$(($# - 1)); "_$1"; printf "%s\\n" "${COMPREPLY[@]}"'
     ran = subprocess.run(["bash", "-c", script, "bash", path, *words], cwd=folder, capture_output=True, text=True)
     return {*ran.stdout.splitlines()} - {""} | {*ran.stderr.splitlines()}
 
 
 def wanted_of(name, form):
-    """The long options of a form."""
+    """Returns the long options of a form."""
     return {what for what in rows_of(name, form) if what.startswith("--")}
 
 
 def count_bash(count, folder, files):
-    """Completions for bash."""
+    """Tests the completions for bash."""
     for name, form in forms():
         path, words = f"{folder}/{name}", [name, *form.split()]
         given_options = bash_offers(path, [*words, "--"], files)
@@ -157,7 +157,7 @@ class Zsh:
         self.typed(f"fpath=({completions} $fpath); autoload -Uz compinit; compinit -u -D; unsetopt beep; LISTMAX=0\n")
 
     def typed(self, text):
-        """What comes after this was typed, up to the answer to a line behind it."""
+        """Types this, and returns the output up to the answer to a line after it."""
         os.write(self.master, f"{text}\x15echo $((40 + 2))end\n".encode())
         seen, until = b"", time.monotonic() + SECONDS
         while b"42end" not in seen and (left := until - time.monotonic()) > 0:
@@ -166,7 +166,7 @@ class Zsh:
         return seen.decode(errors="replace").replace("\r", "")
 
     def why_not(self, line, pattern, right):
-        """What it offers for a line, where these are not the right words; the pattern finds them in what it shows. On a
+        """Returns its offers for a line if these are not the right words; the pattern finds them in its output. On a
         busy machine it may read what is typed next before it has shown anything, so it is asked again.
         """
         for _ in range(TRIES):
@@ -181,7 +181,7 @@ class Zsh:
 
 
 def count_zsh(count, folder, files):
-    """Completions for zsh: what it lists has each option and each form, and no other option."""
+    """Tests the completions for zsh: the list has each option and each form, and no other option."""
     with contextlib.closing(Zsh(folder, files)) as zsh:
         for name, form in forms():
             words = " ".join([name, *form.split()])

@@ -1,4 +1,4 @@
-"""Somebody new who has the source and the kit: from a clone to two players in one room, by docs/INSTALL.md."""
+"""A newcomer with the source and the kit: from a clone to two players in one room, by docs/INSTALL.md."""
 import subprocess
 import tempfile
 import time
@@ -13,7 +13,7 @@ SECONDS = 1800
 
 
 def greeted(port, process):
-    """Somebody who was greeted, once the server listens there; None where it ends before that."""
+    """Returns a greeted client, once the server listens there, or None if the server ends before that."""
     until = time.monotonic() + SECONDS
     while time.monotonic() < until and process.poll() is None:
         try:
@@ -26,7 +26,7 @@ def greeted(port, process):
 
 
 def meet(ann, bob):
-    """What two read who meet in a new world."""
+    """Returns the lines that two players read who meet in a new world."""
     ann.send(b"connect Ann")
     read = [ann.line()]
     bob.send(b"connect Bob")

@@ -1,4 +1,4 @@
-"""What `./run --dist` makes, of the programs that are tested: the files, what is in them, and the same bytes twice."""
+"""The files of `./run --dist`, made from the tested programs: their names, their contents, and equal bytes twice."""
 import contextlib
 import functools
 import hashlib
@@ -20,8 +20,7 @@ from harness.prover import crates, run
 
 PROGRAMS = sorted(FORMS)
 SECONDS = 1_700_000_000
-# The files of a release, as docs/INSTALL.md lists them, and what stands in the tarball and in the package below their
-# prefix.
+# The files of a release, as docs/INSTALL.md lists them, and those of the tarball and of the package below their prefix.
 LISTED = re.compile(r"^\| (`[^|]*`) \| [^|]* \|$", re.M)
 SHARED = [
     *(f"bin/{name}" for name in PROGRAMS),
@@ -35,20 +34,20 @@ PAGES = [*(f"man1/{name}.1" for name in PROGRAMS), "man7/seamountcup.7"]
 
 @functools.cache
 def dist():
-    """The code that makes a release."""
+    """Returns the module that makes a release."""
     sys.path.insert(0, f"{TOP}/packaging")
     return importlib.import_module("dist")
 
 
 def release(**changed):
-    """A release of the programs that are tested."""
+    """Returns a release of the tested programs."""
     number, kit = NUMBER.search(text_of("CHANGELOG.md"))[1], KIT.search(text_of("README.md"))[0]
     how = {"number": number, "is_proved": not is_unproved(), "commit": "0" * 40, "seconds": SECONDS, "kit": kit}
     return dist().Release(**{**how, **changed})
 
 
 def make(folder, **changed):
-    """Makes the files of such a release in a folder, and gives the release."""
+    """Makes the files of such a release in a folder, and returns the release."""
     if dist().missing() or not os.path.isdir(f"{TOP}/.git"):
         raise Skipped(f"it wants a clone, and {', '.join(dist().NEEDED)}")
     made, names = release(**changed), crates().with_below(*crates().programs())
@@ -59,7 +58,7 @@ def make(folder, **changed):
 
 @contextlib.contextmanager
 def unpacked():
-    """A release, the folder of its files, and that of what its tarball and its package hold."""
+    """A release, the folder of its files, and that of the contents of its tarball and its package."""
     with tempfile.TemporaryDirectory() as folder:
         made = make(f"{folder}/dist")
         name = f"seamountcup-{made.version()}-linux-x86_64"
@@ -72,15 +71,15 @@ def unpacked():
 
 
 def files_of(folder):
-    """The files below a folder, by their paths from there."""
+    """Returns the files below a folder, by their paths from there."""
     return {os.path.relpath(f"{above}/{name}", folder) for above, _, names in os.walk(folder) for name in names}
 
 
-# ---- what is in them
+# ---- contents
 
 
 def listed(made):
-    """The files of a release by docs/INSTALL.md."""
+    """Returns the files of a release by docs/INSTALL.md."""
     table = text_of("docs/INSTALL.md").partition("\n## ")[0]
     names = re.findall(r"`([^`]+)`", " ".join(LISTED.findall(table)))
     debian = {"_VERSION": f"_{made.debian_version()}", "-VERSION": f"-{made.version()}"}
@@ -88,7 +87,7 @@ def listed(made):
 
 
 def count_files(count, made, folder):
-    """The files of a release, their sums, and what is in the two archives."""
+    """Tests the files of a release, their sums, and the contents of the two archives."""
     given = files_of(f"{folder}/dist")
     count("packages: the files", given == listed(made), f"{given ^ listed(made)}")
     unproved = {name for name in given if name.startswith("seamountcup") and "unproved" in name}
@@ -107,7 +106,7 @@ def count_files(count, made, folder):
 
 
 def named_below(names):
-    """These crates, and all that crates.txt names behind them, and so on."""
+    """Returns these crates and all below them, by crates.txt."""
     named = dict(re.findall(r"^(\w+):(.*)$", text_of("crates.txt"), re.M))
     found = set()
     while names:
@@ -117,7 +116,7 @@ def named_below(names):
 
 
 def count_programs(count, made, folder):
-    """The programs: each says what it is, is without symbols, and has the sum that PROVED.json tells."""
+    """Tests the programs: each names its version, has no symbols, and has its sum in PROVED.json."""
     proved = json.loads(read(f"{folder}/dist/PROVED.json"))
     count("packages: proved or not", proved["proved"] is made.is_proved is (not is_unproved()), proved["proved"])
     trees = proved["git_trees_of_proved_crates"]
@@ -138,7 +137,7 @@ def count_programs(count, made, folder):
 
 
 def count_archives(count, made, folder):
-    """Nothing in the archives says who made them, and when."""
+    """Tests that nothing in the archives says who made them, and when."""
     with tarfile.open(f"{folder}/dist/seamountcup-{made.version()}-linux-x86_64.tar.gz") as tar:
         kinds = {(it.uid, it.gid, it.uname, it.gname, it.mtime) for it in tar}
         modes = {oct(it.mode) for it in tar}
@@ -158,7 +157,7 @@ def count_archives(count, made, folder):
 
 
 def count_refused(count):
-    """A program that says it is something else is not released."""
+    """Tests that a program with another version is not released."""
     for what, changed in (("proved", {"is_proved": is_unproved()}), ("a number", {"number": "9.9.9"})):
         said = io.StringIO()
         with tempfile.TemporaryDirectory() as folder:
@@ -172,7 +171,7 @@ def count_refused(count):
 
 
 def count_twice(count, folder):
-    """The same again, in another folder, at another time and place, gives the same bytes."""
+    """Tests that another folder, time and place give equal bytes."""
     old_mask, old_zone = os.umask(0o077), os.environ.get("TZ")
     os.environ["TZ"] = "Asia/Tokyo"
     try:
@@ -199,7 +198,7 @@ def packages(count):
 
 
 def cloned(folder):
-    """What `./run --unproved --dist` came to in a clone: its status, what it said, and the files that it made."""
+    """Returns the result of `./run --unproved --dist` in a clone: its status, its output, and its files."""
     ran = subprocess.run(["./run", "--unproved", "--dist"], cwd=folder, capture_output=True, text=True)
     return ran.returncode, ran.stderr, {name: read(f"{folder}/dist/{name}") for name in files_of(f"{folder}/dist")}
 

@@ -25,7 +25,7 @@ VERSION = re.compile(r"\[\d+\] |\(\d+\) ")
 FORM, IN_BRACKETS = "refused", ("failed", "ended")
 # Lines that a program says only if one of its calls fails; other parts have the calls fail.
 AT_FAULTS = {"(out of memory)", "(not stored)", "(journal fault)"}
-# The lines of two players, the second of which the first player hears, and the origin of a page that is refused.
+# The lines of two players; the first hears those of the second. And the origin of a refused page.
 FIRST, SECOND = [b"connect Ann", b"@dig door|back to Yard"], [b"connect Bob", b"say hello", b"door"]
 ELSEWHERE = "http://elsewhere.example"
 SHORTEST = 4  # Characters of the shortest text that identifies a row.

@@ -1,4 +1,4 @@
-"""What a player does with the page in a browser besides typing: moves the map, reads the log, walks a route by clicks,
+"""The uses of the page in a browser besides typing: a player moves the map, reads the log, walks a route by clicks,
 and goes through the page by keys.
 """
 import glob

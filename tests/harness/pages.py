@@ -33,6 +33,7 @@ LOGIC = re.compile(r"logic ([0-9a-f]{8,})")
 # second part may be given for a whole section, before its entries.
 SECTION, ENTRY = re.compile(r"^## (.+)\n", re.M), re.compile(r"^- \*\*(.+?)\*\*((?:.*\n)(?:  .*\n)*)", re.M)
 FOUND, WHY, NOW = "*Found by:*", "*Why no contract:*", "*Now:*"
+SAID_LINES = re.compile(r"\d+ lines of the [\d,]+")
 HYPHENED = re.compile(r"[a-z0-9]+(?:-[a-z0-9]+)+")
 
 
@@ -92,6 +93,16 @@ def count_clauses(count, page):
     quoted = "\n".join(quote for _, quote in quotes_of(text_of(page)))
     missing = [piece for piece in clauses_in(text_of(page)) if piece not in quoted]
     count(f"{page}: clauses", bool(quoted) and not missing, f"quoted nowhere: {', '.join(missing)}")
+
+
+def count_quoted_lines(count, page, trusted):
+    """Tests that a page says how many lines it quotes, of how many that its claim needs by the first row of counts."""
+    text = text_of(page)
+    quoted = sum(len(quote.split("\n")) for _, quote in quotes_of(text))
+    needed = next(cells[3] for cells in rows_of(text_of(trusted)) if len(cells) == 7)
+    said = SAID_LINES.search(" ".join(text.split()))
+    right = f"{quoted} lines of the {int(needed):,}"
+    count(f"{page}: lines that it quotes", bool(said) and said[0] == right, f"it should say: {right}")
 
 
 # ---- paths
@@ -323,6 +334,7 @@ def check_pages(count):
     for tables in (count_promises, count_together, count_wrong_bodies):
         tables(count, "docs/PROVED.md")
     count_clauses(count, "docs/THEOREM.md")
+    count_quoted_lines(count, "docs/THEOREM.md", "docs/TRUST.md")
     count_steps(count, "docs/ARCHITECTURE.md")
     known = known_names()
     for page in NAMING:

@@ -1,8 +1,8 @@
-"""Random histories with certificates, right ones and spoiled ones, for checkers to be compared by.
+"""Random histories with certificates, right ones and spoiled ones, to compare checkers with.
 
-A history is made change by change: of those that are drawn, the legal ones are kept, and a last one may be as it likes.
-The certificate comes from a search for least labels in the world of one of its versions. Then it may be spoiled, or
-bytes of one of the texts may be. What is right of a pair is said nowhere here: the checkers say it.
+A history is made change by change: the legal ones are kept, and the last one may be any. The certificate comes from a
+search for least labels in the world of one of its versions. Then it may be spoiled, or bytes of one of the texts may
+be. Nothing here says which pairs are right: the checkers do.
 """
 import contextlib
 import functools
@@ -15,7 +15,7 @@ import check
 NAMES = ["hall", "Yard", "a b", "x", "~", "Bob", "AL", "c#d", "The old well", 60 * "y"]
 NO_NAMES = ["a  b", " a", "a ", "#a", "", "what?", 61 * "x"]
 BYTES = b"#0123456789 \",:/\n\r!?&|()abcdef-\x7f\xff"
-# Words of both formats, put in where they may not stand.
+# Words of both formats, inserted where they may not occur.
 WORDS = ["member", "labels", "walk", "walk none", "walk nothing", "route", "meet none", "no way", "cost 1", "#0"]
 WORDS += ["#1:1", "end", "end 1", "version 1", "mud proof 1", "mud history 2", "1 1 say #1 hi", 'out "x"', 'back "x"']
 WORDS += ["!#1", "?#0", "&& #1"]
@@ -38,14 +38,14 @@ class Tale:
     lines: list = field(default_factory=list)
 
     def any_of(self, kind):
-        """The number of an object of this kind, mostly; of any, or of none, else."""
+        """Returns the number of an object, mostly of this kind, and otherwise of any or of none."""
         found = [number for number, one in self.world.objects.items() if one.kind in kind]
         if found and self.draw.random() < 0.95:
             return self.draw.choice(found)
         return self.draw.randrange(self.world.next + 1)
 
     def name(self):
-        """A name; that of a player in other letters, or none, now and then."""
+        """Returns a name, and now and then that of a player in other letters, or none."""
         draw = self.draw.random()
         if draw < 0.01:
             return self.draw.choice(NO_NAMES)
@@ -58,7 +58,7 @@ class Tale:
         return '"' + ",".join(self.name() for _ in range(self.draw.randint(1, most))) + '"'
 
     def key(self, size):
-        """The text of a key, not always as it is printed."""
+        """Returns the text of a key, not always as it is printed."""
         if size <= 1 or self.draw.random() < 0.4:
             locked = [number for number, one in self.world.objects.items() if one.key]
             if locked and self.draw.random() < 0.4:
@@ -75,9 +75,8 @@ class Tale:
         return key if bare or self.draw.random() < 0.02 else f"({key})"
 
     def drawn(self, is_last=False):
-        """A change that may be legal, as in a history's line behind the desk. Those are drawn most that make a world,
-        and as the last one those that may be refused for many reasons.
-        """
+        """Returns a change that may be legal, as in a history's line after the desk. Changes that make a world are the
+        most frequent, and as the last one those that may be refused for many reasons."""
         actor = self.any_of(["player"])
         weights = [REASONS.get(kind, 1) if is_last else weight for kind, (weight, _) in KINDS.items()]
         kind = self.draw.choices([*KINDS], weights)[0]
@@ -95,7 +94,7 @@ class Tale:
         return room + out + (f" back {self.names()}" if out and self.draw.random() < 0.5 else "")
 
     def grow(self):
-        """Draws a change, and adds it where it is legal."""
+        """Draws a change, and adds it if it is legal."""
         text = self.drawn()
         kind, actor, rest = text.split(" ", 2)
         change = check.change_of(kind, actor, rest)
@@ -105,7 +104,7 @@ class Tale:
             self.lines.append(text)
 
     def text(self, more=()):
-        """The history's text, with more changes behind its own."""
+        """Returns the history's text, followed by more changes."""
         draw, form = self.draw, 1 if self.draw.random() < 0.2 else 2
         lines = [f"{at} {draw.choice([1, 1, 1, 2, 64])} {line}" for at, line in enumerate([*self.lines, *more], 1)]
         return "\n".join([f"mud history {form}", *lines, f"end {len(lines)}", ""])
@@ -131,7 +130,7 @@ REASONS = {"move": 6, "lock": 3, "recycle": 3, "walk": 2, "rename": 2, "player":
 
 
 def least_labels(world, player, form):
-    """The least label of each room that a player reaches, with the exit by which it is reached."""
+    """Returns the least label of each room that a player reaches, with the exit by which it is reached."""
     start = world.objects[player].place
     labels, waiting = {}, [((0, 0), start, None)]
     while waiting:
@@ -147,7 +146,7 @@ def least_labels(world, player, form):
 
 
 def walk_to(world, labels, room):
-    """The exits by which a room has its label."""
+    """Returns the exits by which a room has its label."""
     walk = []
     while labels[room][1] is not None:
         walk.insert(0, labels[room][1])
@@ -156,7 +155,7 @@ def walk_to(world, labels, room):
 
 
 def claimed(world, version, draw):
-    """A certificate that holds in a world."""
+    """Returns a certificate that holds in a world."""
     players = [number for number, one in world.objects.items() if one.kind == "player"]
     count = draw.choice([1, 1, 2, 2, 3, 8])
     party = draw.sample(players, min(count, len(players)))
@@ -182,7 +181,7 @@ def claimed(world, version, draw):
 
 
 def text_of(certificate):
-    """The text of a certificate, whether or not it can be one."""
+    """Returns the text of a certificate, whether or not it can be one."""
     form, sharps = certificate.form, lambda numbers: " ".join(f"#{number}" for number in numbers)
     lines = [f"mud proof {form}", f"version {certificate.version}"]
     for member in certificate.members:
@@ -198,7 +197,7 @@ def text_of(certificate):
     return "\n".join([*lines, "end", ""])
 
 
-# ---- what is spoiled in a certificate: each takes it, its world, and what draws
+# ---- spoiling a certificate: each function takes it, its world, and the source of random choices
 
 
 def any_number(world, draw):
@@ -247,7 +246,7 @@ def one_label_less(certificate, world, draw):
 
 
 def lower_labels(certificate, world, draw):
-    """Labels stay valid where all are the least of two valid ones; a walk shows that they are too low."""
+    """Labels stay valid if each is the least of two valid ones; a walk shows that they are too low."""
     member = draw.choice(certificate.members)
     member.labels = {room: (0, 0) for room in member.labels}
 
@@ -261,7 +260,7 @@ def other_exits(certificate, world, draw):
 
 
 def strolled(certificate, world, draw):
-    """A walk that asks for no key, by exits that leave where it stands."""
+    """A walk that asks for no key, by exits that leave the room where it has arrived."""
     member = draw.choice(certificate.members)
     at, walk = member.start, []
     for _ in range(draw.randrange(6)):
@@ -295,7 +294,7 @@ def another_cost(certificate, world, draw):
 
 
 def another_room(certificate, world, draw):
-    """Another room is concluded, with walks that lead there."""
+    """The conclusion names another room, with walks that lead there."""
     common = set.intersection(*(set(member.labels) for member in certificate.members))
     certificate.room = any_room(world, draw) if draw.random() < 0.8 else any_number(world, draw)
     if common and draw.random() < 0.6:
@@ -350,7 +349,7 @@ SPOILERS += [other_exits, strolled, strolled, by_locked_exit, no_walk, another_c
 SPOILERS += [nothing_concluded, another_best_room, another_version, other_form]
 
 
-# ---- what is spoiled in a text
+# ---- spoiling a text
 
 
 def other_number(text, draw):
@@ -408,7 +407,7 @@ TEXT_SPOILERS = [other_number, other_number, other_byte, other_lines, other_word
 
 
 def tale_of(draw):
-    """A history of at most so many changes as are drawn."""
+    """Returns a history of at most as many changes as are drawn."""
     tale = Tale(draw)
     length = draw.choice([2, 8, 20, 30, 40])
     for _ in range(2 * length):
@@ -417,7 +416,7 @@ def tale_of(draw):
 
 
 def pairs_of(seed, most):
-    """So many pairs with one history, behind which a further change may stand, legal or not."""
+    """Returns this many pairs with one history, after which a further change may come, legal or not."""
     draw = random.Random(seed)
     tale = tale_of(draw)
     changes = check.changes_of(tale.text().replace("mud history 1", "mud history 2"))

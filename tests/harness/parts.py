@@ -4,13 +4,12 @@
     def prepositions(count):
         count("with", found("put coin with lamp") == "with", "another word is found")
 
-A test whose work is worth leaving out is tried by the count itself, and only where its name is wanted:
+A test may count itself, so that its work is left out if its name is not wanted:
 
         count.tries("without an object", why_wrong, "put in lamp")
 
-A part on demand is run only where it is named. One that says which words it takes gets those after its name. One that
-wants a proof is about what was proved, or what a proved program costs: without names `tests/run --unproved` leaves it
-out.
+A part on demand runs only if it is named. A part with words gets the words after its name. A part that wants a proof is
+about proofs, or about the costs of a proved program: without names `tests/run --unproved` leaves it out.
 """
 import time
 import traceback
@@ -22,12 +21,12 @@ SHOWN_LENGTH, SHOWN_CALLS = 2000, 6
 
 
 class Skipped(Exception):
-    """A part can't be run here, for this reason, and that is no fault."""
+    """A part can't run here, for this reason, and that is not a fault."""
 
 
 @dataclass
 class Part:
-    """A function that counts tests, and what a reader is to know of it."""
+    """A function that counts tests, and its description for a reader."""
 
     name: str
     sentence: str
@@ -37,7 +36,7 @@ class Part:
     wants_proof: bool
 
     def line(self):
-        """How `--list` shows it."""
+        """Returns its line of `--list`."""
         notes = ["on demand"] * self.on_demand + ["wants a proof"] * self.wants_proof
         notes += [f"words: {self.words}"] * bool(self.words)
         return f"{self.name:<26} {self.sentence}" + (f" ({'; '.join(notes)})" if notes else "")
@@ -52,7 +51,7 @@ class Count:
         self.passed = self.failed = 0
 
     def wants(self, name):
-        """Whether a test of this name counts."""
+        """Returns whether a test of this name counts."""
         return not self.only or any(text in name for text in self.only)
 
     def __call__(self, name, passed, why=""):
@@ -65,8 +64,8 @@ class Count:
             print(f"FAILED: {name}{f': {why}' if why else ''}"[:SHOWN_LENGTH], flush=True)
 
     def tries(self, name, why_not, *given, **how):
-        """Counts a test that passes where `why_not`, called with the rest, gives no reason. It isn't called where the
-        test doesn't count, and what it raises is the reason, with its last calls."""
+        """Counts a test that passes if `why_not`, called with the rest, returns no reason. If the test doesn't count,
+        `why_not` isn't called. If it raises an exception, that is the reason, with its last calls."""
         if not self.wants(name):
             return
         try:
@@ -82,7 +81,7 @@ class Count:
 
 
 def part(name, sentence, on_demand=False, words="", wants_proof=False):
-    """Registers a function as a part of tests/run. `words` shows the words that it takes, if it takes some."""
+    """Registers a function as a part of tests/run. `words` describes the words that it takes, if any."""
 
     def register(run):
         if name in PARTS:
@@ -94,8 +93,8 @@ def part(name, sentence, on_demand=False, words="", wants_proof=False):
 
 
 def run_part(one, words, total):
-    """Runs a part and adds what it counts. Words for a part that takes none name its tests. Where it breaks off, that
-    is one failed test."""
+    """Runs a part and adds its counts. Words for a part that takes none name its tests. An exception counts as one
+    failed test."""
     words, only = (words, ()) if one.words else ((), words)
     count, began = Count(only), time.monotonic()
     try:

@@ -1,8 +1,8 @@
-"""A plain world, written from docs/ only: what the lines of a history make of it (docs/WORLD.md, docs/HISTORY.md),
-what a player's line results in (docs/COMMANDS.md), the way (docs/ROADS.md), and what others hear.
+"""A plain world, written from docs/ only. It knows what the lines of a history make of it (docs/WORLD.md,
+docs/HISTORY.md), the result of a player's line (docs/COMMANDS.md), routes (docs/ROADS.md), and the notices of others.
 
-It serves to judge what a server answered, and is slow. It knows no `@rename`, `@recycle`, `@history`, and no ways to
-old rooms by `@dig`. A change is written as in a history, without its version and desk.
+It judges a server's answers and is slow. It does not know `@history`. It writes a change as a history does, without the
+version and the desk.
 """
 import heapq
 import re
@@ -39,15 +39,15 @@ LAST = 8191
 
 
 class Refused(Exception):
-    """A line is refused, with this number."""
+    """A line is refused with this number."""
 
 
 class Unknown(Exception):
-    """A line or a change of a kind that is not known here."""
+    """A line or a change of a kind that this module does not know."""
 
 
 def need(holds, number):
-    """Refuses with this number what does not hold."""
+    """Refuses with this number unless the condition holds."""
     if not holds:
         raise Refused(number)
 
@@ -57,7 +57,7 @@ def is_name(text):
 
 
 def names_of(text):
-    """The names of a names text."""
+    """Returns the names in a names text."""
     names = [part.strip(" ") for part in text.split(",")]
     need(len(names) <= 4 and all(map(is_name, names)), 7)
     return names
@@ -92,7 +92,7 @@ def listed(things):
 
 
 def key_of(text, meant):
-    """The key that a key text is, `meant` giving the number of each object's text."""
+    """Returns the key that a key text spells; `meant` gives the number of each object's text."""
     tokens = [token.strip(" ") for token in re.findall(r"&&|\|\||[!?()]|[^!?()&|]+|[&|]", text)]
     tokens = [token for token in tokens if token]
     key, rest = chain(tokens, meant)
@@ -101,7 +101,7 @@ def key_of(text, meant):
 
 
 def chain(tokens, meant):
-    """A chain of joins, grouped from the left, and the tokens after it."""
+    """Returns a chain of joins, grouped from the left, and the tokens after it."""
     key, tokens = unary(tokens, meant)
     while tokens and tokens[0] in ("&&", "||"):
         other, rest = unary(tokens[1:], meant)
@@ -127,7 +127,7 @@ def unary(tokens, meant):
 
 
 def objects(key):
-    """The kinds and numbers of a key's objects."""
+    """Returns the kinds and numbers of a key's objects."""
     if key[0] in "#?":
         yield key
     else:
@@ -136,7 +136,7 @@ def objects(key):
 
 
 def printed(key):
-    """A key with the least parentheses."""
+    """Returns a key as text with the fewest parentheses."""
     if key[0] in ("#", "?"):
         return f"{'?' if key[0] == '?' else ''}#{key[1]}"
     if key[0] == "!":
@@ -160,7 +160,7 @@ class World:
         self.add("player", ["Wizard"], 1, place=0)
 
     def add(self, kind, names, owner, **more):
-        """A new object of the next number."""
+        """Adds an object with the next number and returns it."""
         number, self.next = self.next, self.next + 1
         thing = self.all[number] = Thing(number, kind, names, owner, **more)
         if thing.place is not None:
@@ -171,10 +171,10 @@ class World:
             self.players.add(number)
         return number
 
-    # What is true of objects.
+    # Predicates on objects.
 
     def within(self, thing, holder):
-        """Whether following places from one leads to the other."""
+        """Returns whether following places from one object leads to the other."""
         while thing is not None:
             if thing == holder:
                 return True
@@ -199,26 +199,27 @@ class World:
         return key is None or self.true(key, candidate)
 
     def nests(self, number, left, keys):
-        """Whether the key of an object nests at most so deep, some keys being others than they are."""
+        """Returns whether the key of an object nests at most this deep, with `keys` in place of some keys."""
         key = keys.get(number) or (self.all[number].key if number in self.all else None)
         asked = {it for kind, it in objects(key) if kind == "?"} if key else set()
         return not asked or (left > 0 and all(self.nests(it, left - 1, keys) for it in asked))
 
     def carries(self, player, number):
-        """Whether the thing is the player's at any depth."""
+        """Returns whether the player carries the thing at any depth."""
         return number != player and self.within(number, player)
 
     def in_reach(self, player, number):
-        """Whether following places from a thing arrives at the player or at his room, passing things alone."""
+        """Returns whether following places from a thing, through things alone, reaches the player or the player's
+        room."""
         place = self.all[number].place
         while place is not None and self.all[place].kind == "thing":
             place = self.all[place].place
         return place in (player, self.all[player].place)
 
-    # What a text means.
+    # The meaning of texts.
 
     def meant(self, player, text, candidates=None):
-        """The number of the object that a text means."""
+        """Returns the number of the object that a text means."""
         need(text, 1)
         low = text.lower()
         if re.fullmatch(r"#[0-9]{1,9}", text):
@@ -243,7 +244,7 @@ class World:
         return number
 
     def both(self, player, direct, indirect):
-        """The two objects of a line, or the lower number of their refusals."""
+        """Returns the two objects of a line, or raises the lower number of their refusals."""
         found, numbers = [], []
         for text in (direct, indirect):
             try:
@@ -259,13 +260,13 @@ class World:
                 return number
         return None
 
-    # The way.
+    # Routes.
 
     def is_open(self, exit_number, player):
         return self.unlocked(exit_number, player) and self.unlocked(self.all[exit_number].to, player)
 
     def labels(self, player):
-        """The least cost and number of exits to each room that the player reaches."""
+        """Returns the least cost and the least number of exits to each room that the player reaches."""
         labels, waiting, opened = {}, [(0, 0, self.all[player].place)], []
         while waiting:
             cost, exits, room = heapq.heappop(waiting)
@@ -279,7 +280,7 @@ class World:
         return labels, opened
 
     def way(self, player, room, labels, opened):
-        """The canonical route, exit by exit."""
+        """Returns the canonical route, exit by exit."""
         walk = []
         while labels[room] != (0, 0):
             cost, exits = labels[room]
@@ -292,7 +293,7 @@ class World:
         return walk
 
     def priced_way(self, player, room):
-        """At what cost he gets there, and by which exits; None where there is no way."""
+        """Returns the cost of the player's route to a room and its exits, or None if there is no route."""
         labels, opened = self.labels(player)
         if room not in labels:
             return None
@@ -305,7 +306,7 @@ class World:
         return [f"route #{start} to #{room} {end}"]
 
     def meet(self, party):
-        """Where the party meets."""
+        """Returns where the party meets."""
         first = "meet " + " ".join(f"#{it}" for it in party)
         labels = [self.labels(it)[0] for it in party]
         rooms = set.intersection(*map(set, labels))
@@ -319,7 +320,7 @@ class World:
     # The changes of a history.
 
     def apply(self, change):
-        """Makes a change, which is taken to be legal."""
+        """Makes a change, which must be legal."""
         word, actor, rest = re.fullmatch(r"([a-z]+) #([0-9]+) ?(.*)", change).groups()
         numbers = [int(it) for it in re.findall(r"#([0-9]+)", rest)] if word not in ("say", "emote") else []
         make = getattr(self, f"do_{word}", None)
@@ -328,15 +329,14 @@ class World:
         make(int(actor), rest, numbers)
         self.version += 1
 
-    def do_dig(self, actor, rest, _):
-        names = [it.split(",") for it in re.findall(r'"([^"]*)"', rest)]
-        if not rest.startswith("new"):
-            raise Unknown(rest)
-        here, room = self.all[actor].place, self.add("room", names[0], actor)
+    def do_dig(self, actor, rest, numbers):
+        names = [it.split(",") for it in rest.split('"')[1::2]]
+        here, is_new = self.all[actor].place, rest.startswith("new")
+        room = self.add("room", names.pop(0), actor) if is_new else numbers[0]
+        if names:
+            self.add("exit", names[0], actor, source=here, to=room)
         if len(names) > 1:
-            self.add("exit", names[1], actor, source=here, to=room)
-        if len(names) > 2:
-            self.add("exit", names[2], actor, source=room, to=here)
+            self.add("exit", names[1], actor, source=room, to=here)
 
     def do_make(self, actor, rest, _):
         self.add("thing", rest.strip('"').split(","), actor, place=actor)
@@ -360,20 +360,30 @@ class World:
     def do_cost(self, _, rest, numbers):
         self.all[numbers[0]].cost = int(rest.split()[1])
 
+    def do_rename(self, _, rest, numbers):
+        self.all[numbers[0]].names = rest.split('"')[1].split(",")
+
+    def do_recycle(self, _, __, numbers):
+        thing = self.all.pop(numbers[0])
+        if thing.place is not None:
+            self.all[thing.place].contents.remove(thing.number)
+        if thing.source is not None:
+            self.all[thing.source].leaving.remove(thing.number)
+
     def do_say(self, *_):
         pass
 
     do_emote = do_say
 
     def put(self, number, to):
-        """Changes the place of a thing or player."""
+        """Changes the place of a thing or a player."""
         thing = self.all[number]
         self.all[thing.place].contents.remove(number)
         thing.place = to
         self.all[to].contents.append(number)
 
     def heard(self, change, player):
-        """What a player hears of a change before it is made, or None."""
+        """Returns what a player hears of a change before it is made, or None."""
         word, actor, rest = change.split(" ", 2)
         if word not in ("say", "emote", "walk", "move", "player") or actor == f"#{player}":
             return None
@@ -405,11 +415,12 @@ class World:
         return f"{name[0]} gives {name[1]} to {'you' if to.number == player else to.names[0]}."
 
     def reply(self, change):
-        """What the actor is answered to a change, before it is made."""
+        """Returns the actor's reply to a change before it is made."""
         word, actor, rest = change.split(" ", 2)
         words = rest.split(" ")
         if word == "dig":
-            new = ["room", "exit", "exit back"][: 1 + (" out " in rest) + (" back " in rest)]
+            first, count = words[0] == "old", rest.count('"') // 2
+            new = ["room", "exit", "exit back"][first : first + count]
             return "dug " + ", ".join(f"{it} #{self.next + at}" for at, it in enumerate(new))
         if word == "move":
             return self.reply_to_move(int(actor[1:]), words)
@@ -419,6 +430,8 @@ class World:
             "lock": f"locked {words[0]} with {' '.join(words[1:])}",
             "unlock": f"unlocked {words[0]}",
             "cost": f"cost of {words[0]} is {words[-1]}",
+            "rename": f"renamed {words[0]}",
+            "recycle": f"recycled {words[0]}",
             "say": "said",
             "emote": "done",
         }
@@ -435,7 +448,7 @@ class World:
 
 
 def words_of(text):
-    """The words of a text, and how long its front is up to the end of the first."""
+    """Returns the words of a text, and the length of its prefix up to the end of the first."""
     words, word, first, is_quoted, is_plain = [], None, len(text), False, False
     for at, sign in enumerate(text + " "):
         if is_plain and at < len(text):
@@ -455,7 +468,7 @@ def words_of(text):
 
 
 class Line:
-    """A line taken apart: its verb, what stands after it, and round a preposition."""
+    """A line taken apart: its verb, the text after the verb, and the texts on both sides of a preposition."""
 
     def __init__(self, text):
         text = text.lstrip(" ")
@@ -470,7 +483,7 @@ class Line:
         self.find_preposition([it.lower() for it in self.words])
 
     def find_preposition(self, low):
-        """Takes the words apart round the first preposition, and round the longest there."""
+        """Splits the words at the first preposition, taking the longest preposition there."""
         for at in range(len(low)):
             found = [phrase for phrase in PHRASES if tuple(low[at : at + len(phrase)]) == phrase]
             if found:
@@ -481,7 +494,7 @@ class Line:
 
 
 class Decision:
-    """What a line of a player, or of a guest (None), results in: `change`, `become` or `asked` is set."""
+    """The result of a line of a player, or of a guest (None): one of `change`, `become` and `asked` is set."""
 
     def __init__(self, world, player, text):
         self.world, self.player, self.line = world, player, Line(text)
@@ -553,7 +566,7 @@ class Decision:
         self.walk(exits[0])
 
     def move(self, number, to):
-        """The change that moves a thing that is in reach."""
+        """Returns the change that moves a thing in reach."""
         world = self.world
         here = self.here()
         need(self.kind(to) != "exit", 4)
@@ -606,13 +619,14 @@ class Decision:
             return
         sides = line.direct.split("|")
         need(line.preposition == "at" and all(sides) and line.indirect, 1)
-        if line.indirect.startswith("#"):
-            raise Unknown(line.text)
+        old = re.fullmatch("#[0-9]{1,9}", line.indirect)
+        if old:
+            need(self.kind(self.thing(line.indirect)) == "room", 4)
         need(len(sides) <= 2, 7)
         names = [spelled(names_of(side)) for side in sides]
-        room = spelled(names_of(line.indirect))
-        need(self.world.next + len(sides) <= LAST, 17)
-        self.changes("dig", f"new {room} out " + " back ".join(names))
+        target = f"old #{int(line.indirect[1:])}" if old else f"new {spelled(names_of(line.indirect))}"
+        need(self.world.next + len(sides) - bool(old) <= LAST, 17)
+        self.changes("dig", f"{target} out " + " back ".join(names))
 
     def on_create(self):
         need(self.line.all, 1)
@@ -653,6 +667,23 @@ class Decision:
         self.owns(number)
         need(re.fullmatch("[0-9]{1,9}", self.line.indirect) and int(self.line.indirect) <= 10_000, 11)
         self.changes("cost", f"#{number} {int(self.line.indirect)}")
+
+    def on_rename(self):
+        need(self.line.preposition == "at" and self.line.direct and self.line.indirect, 1)
+        number = self.thing(self.line.direct)
+        self.owns(number)
+        names = names_of(self.line.indirect)
+        others = (self.world.player_named(name) for name in names)
+        need(self.kind(number) != "player" or all(other in (None, number) for other in others), 8)
+        self.changes("rename", f"#{number} {spelled(names)}")
+
+    def on_recycle(self):
+        number = self.thing()
+        need(self.kind(number) != "player", 4)
+        self.owns(number)
+        ends = (one for one in self.world.all.values() if number in (one.source, one.to))
+        need(number != 0 and not self.world.all[number].contents and not any(ends), 16)
+        self.changes("recycle", f"#{number}")
 
     def on_route(self):
         need(self.line.preposition == "at" and not self.line.direct and self.line.indirect, 1)
@@ -697,13 +728,13 @@ VERBS = {
     "give": Decision.on_give, "say": Decision.on_say, "emote": Decision.on_emote, "@dig": Decision.on_dig,
     "@create": Decision.on_create, "@lock": Decision.on_lock, "@unlock": Decision.on_unlock, "@key": Decision.on_key,
     "@cost": Decision.on_cost, "route": Decision.on_route, "meet": Decision.on_meet, "proof": Decision.on_proof,
-    "@version": Decision.on_version, "quit": Decision.on_quit, "@rename": Decision.on_another,
-    "@recycle": Decision.on_another, "@history": Decision.on_another,
+    "@version": Decision.on_version, "quit": Decision.on_quit, "@rename": Decision.on_rename,
+    "@recycle": Decision.on_recycle, "@history": Decision.on_another,
 }
 
 
 def decide(world, player, text):
-    """What a line results in: its kind (`change`, `become`, `asked`, `refused`), and what goes with it."""
+    """Returns the result of a line: its kind (`change`, `become`, `asked`, `refused`), and what goes with the kind."""
     try:
         decision = Decision(world, player, text)
     except Refused as refused:

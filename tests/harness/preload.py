@@ -1,7 +1,7 @@
-"""The libraries of tests/preload: each is preloaded into a program, counts its calls of one kind, and fails one, or
-notes what was synced.
+"""The libraries of tests/preload. Each is preloaded into a program, counts its calls of one kind, and fails one of them
+or records what was synced.
 
-They are compiled once a run, into a folder that goes away with it.
+The harness compiles them once a run, into a folder that it removes at the end.
 """
 import functools
 import shutil
@@ -11,14 +11,14 @@ import tempfile
 from harness.parts import Skipped, part
 from harness.programs import TOP
 
-# Those by which any program can be tried, call by call; and those for what only a server does.
+# The libraries that suit any program, call by call, and those that suit only a server.
 LIBRARIES = ("refuse", "fail_ends", "fail_threads")
 SERVER_LIBRARIES = ("fail_files", "note_syncs", "lose_pages", "fail_accept", "ceiling")
 COMPILERS = ("cc", "gcc", "clang")
 
 
 class NotCompiled(Exception):
-    """A library can't be compiled."""
+    """A library does not compile."""
 
 
 @functools.cache
@@ -27,7 +27,7 @@ def folder():
 
 
 def compiler():
-    """The C compiler; where there is none, what needs one is skipped."""
+    """Returns the C compiler. Where there is none, tests that need one are skipped."""
     for name in COMPILERS:
         if shutil.which(name):
             return name
@@ -36,7 +36,7 @@ def compiler():
 
 @functools.cache
 def library(name):
-    """The path of a compiled library: `library("refuse")`."""
+    """Returns the path of a compiled library: `library("refuse")`."""
     path = f"{folder().name}/{name}.so"
     command = [compiler(), "-O2", "-Wall", "-shared", "-fPIC", "-o", path, f"{TOP}/tests/preload/{name}.c"]
     ran = subprocess.run(command, capture_output=True, text=True, check=False)

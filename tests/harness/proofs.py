@@ -1,4 +1,4 @@
-"""Certificates that were printed, each checked against the history of the same world by mud_check."""
+"""Checks printed certificates: mud_check reads each one against the history of the same world."""
 import os
 import subprocess
 import tempfile
@@ -9,7 +9,7 @@ SECONDS = 60
 
 
 def checked(history, proof):
-    """The status and the output of `mud_check HISTORY PROOF`."""
+    """Returns the status and the output of `mud_check HISTORY PROOF`."""
     with tempfile.TemporaryDirectory() as folder:
         files = []
         for name, text in (("history", history), ("proof", proof)):
@@ -21,6 +21,6 @@ def checked(history, proof):
 
 
 def refused(history, proofs):
-    """The proofs that are not accepted, each with what is said of it, as texts."""
+    """Returns the proofs that are not accepted, each with the checker's words, as texts."""
     verdicts = ((proof, checked(history, proof)) for proof in proofs)
     return [f"{verdict} for {proof}" for proof, verdict in verdicts if verdict != (0, b"accepted\n")]

@@ -1,4 +1,4 @@
-"""The prover, over the libraries as they were proved last."""
+"""The prover, run over the libraries as they were last proved."""
 import functools
 import importlib.machinery
 import importlib.util
@@ -9,9 +9,9 @@ from dataclasses import dataclass
 
 from harness.programs import TOP, NotBuilt
 
-# Where `rt ci` and `rt check`, and where `./run`, leave what they proved of a library, below its crate's folder.
+# The folders below a crate where `rt ci` and `rt check`, and where `./run`, leave a proved library.
 PLACES = ("out/rlib", "out/stated")
-# How the prover says what is not proved, and where; and what it says of a proof that names what is not there any more.
+# How the prover reports an unproved function and its place, and a proof that names something that no longer exists.
 PLACE = r"(?:\./)?(?:src|specs|proofs)/\S+:\d+:\d+: "
 REASON = re.compile(rf"note: {PLACE}|{PLACE}error")
 GONE = re.compile(r"has no field|has no `|is not in scope|was not admitted")
@@ -19,7 +19,7 @@ GONE = re.compile(r"has no field|has no `|is not in scope|was not admitted")
 
 @functools.cache
 def run():
-    """`./run` as a module: it knows the crates, and the words for the kit's compiler."""
+    """Returns `./run` as a module: it knows the crates, and the arguments for the kit's compiler."""
     loader = importlib.machinery.SourceFileLoader("run", f"{TOP}/run")
     module = importlib.util.module_from_spec(importlib.util.spec_from_loader("run", loader))
     loader.exec_module(module)
@@ -37,7 +37,7 @@ def rlib_at(place, name):
 
 @functools.cache
 def place_below(crate):
-    """The place in which all libraries below a crate are."""
+    """Returns the folder that holds all libraries below a crate."""
     below = crates().below(crate)
     for place in PLACES:
         if all(os.path.exists(rlib_at(place, low)) for low in below):
@@ -47,14 +47,15 @@ def place_below(crate):
 
 @dataclass
 class Said:
-    """What the prover says of one function of a crate: its status, and its lines."""
+    """The prover's report on one function of a crate: its status and its lines."""
 
     function: str
     status: int
     lines: list
 
     def of_function(self):
-        """How it ends the line of the function, as `proved`; an empty text where there is no such line."""
+        """Returns the verdict at the end of the function's line, such as `proved`, or an empty text if there is no such
+        line."""
         name = rf"fn (?:\w+::)+{re.escape(self.function)}: (.*)"
         found = (re.fullmatch(name, line) for line in self.lines)
         return next((one[1] for one in found if one), "")
@@ -63,20 +64,34 @@ class Said:
         return self.status == 0 and self.of_function().startswith("proved")
 
     def finds_no_proof(self):
-        """Whether it read all, and found no proof of the function, but not only as a name is gone."""
+        """Returns whether it read everything and found no proof of the function, for more reason than a missing
+        name."""
         read_all = self.status == 1 and re.match(r"only=\d+ proved=\d+$", self.lines[-1])
         reasons = [line for line in self.lines if REASON.match(line) and not GONE.search(line)]
         return bool(read_all and reasons and re.match(r"not proved|no proof", self.of_function()))
 
     def shown(self):
-        """What is shown where it says something else than is wanted."""
+        """Returns what to show if it says something else than expected."""
         reasons = [line for line in self.lines if REASON.match(line) or " error" in line]
         return f"status {self.status}: {'; '.join(line[:200] for line in [*reasons[:2], self.lines[-1]])}"
 
 
 def check_function(crate, function, folder):
-    """What the prover says of a function of a crate whose files are in this folder, as of those that it calls there."""
-    words = run().words_over(crates(), crate, functools.partial(rlib_at, place_below(crate)))
+    """Returns the prover's report on a function of a crate whose files are in this folder, with the functions that it
+    calls there."""
+    return checked(run().words_over(crates(), crate, functools.partial(rlib_at, place_below(crate))), function, folder)
+
+
+def check_own(name, like, function, folder):
+    """Returns the prover's report on a function of a crate of this name that depends on the kit's core, and on the
+    crates of another one."""
+    words = run().words_over(crates(), like, functools.partial(rlib_at, place_below(like)))
+    words = [name if it == like else it for it in words]
+    return checked([*words, "--extern", f"core={run().kit()}/rlibs/core.rlib"], function, folder)
+
+
+def checked(words, function, folder):
+    """Returns the prover's report on a function of the crate in this folder."""
     words = [f"{run().kit()}/bin/rattle", "check", *words, "--only", function]
     how = {"stdin": subprocess.DEVNULL, "stdout": subprocess.PIPE, "stderr": subprocess.STDOUT, "errors": "replace"}
     ran = subprocess.run(words, cwd=folder, check=False, **how)

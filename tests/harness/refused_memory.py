@@ -1,14 +1,13 @@
-"""Each request for memory that a program makes is refused in turn. Where threads make requests, a run may make fewer
-than the first did. A run must give all that is given with ample memory, or what its program says when it is out of
-memory, and nothing else:
+"""Refuses each request for memory of a program in turn. Where threads make requests, a run may make fewer than the
+first run did. A run must give everything that it gives with ample memory, or the program's report that memory is out,
+and nothing else:
 
-mud_serve    the text in which one line is answered `(out of memory)` and was no step, or a front of
+mud_serve    the text in which one line is answered `(out of memory)` and was no step, or a prefix of
              the text, status 4 and `mud_serve: out of memory` on standard error
-mud_check    the line `unreadable: out of memory`, and status 2
-mud_keep     the same line on standard error, and status 2
-others       a front of the text, status 4 and `PROGRAM: out of memory` on standard error; of
-             `mud_explain hall` also the text in which one line is answered `(out of memory)` and was
-             no step, or only its desk, one of three at most, saw more or took some in
+mud_check    the line `unreadable: out of memory`, and status 2 mud_keep     the same line on standard error, and status
+2 others       a prefix of the text, status 4 and `PROGRAM: out of memory` on standard error;
+             `mud_explain hall` may also give the text in which one line is answered `(out of memory)` and
+             was no step, or only its desk, one of three at most, saw more or applied some
 """
 import re
 
@@ -17,15 +16,16 @@ from harness.inputs import session
 from harness.parts import part
 from harness.trial import Trial, tell
 
-# What belongs together in a stream of Telnet's bytes: a command, a line end, or one byte (docs/TELNET.md).
+# A unit in a stream of Telnet's bytes: a command, a line end, or one byte (docs/TELNET.md).
 TOKEN = re.compile(rb"\xff[\xfb-\xfe].|\xff\xfa(?:[^\xff]|\xff[^\xf0])*\xff\xf0|\xff.|\r[\n\0]?|.", re.DOTALL)
-# Where a desk's world takes in some of the entries that the desk has seen, and another desk learns from it, this trial
-# does not know what is right.
+# If a desk's world applies only some of the entries that the desk has seen, and another desk learns from it, this trial
+# does not know the right answer.
 UNKNOWN = ("hall told-in-order",)
 
 
 def telnet_lines(text):
-    """Each line of a player's with its end, and the commands in it by themselves, which are no part of the line."""
+    """Returns each line of a player with its end, and the commands inside it separately, since they are no part of the
+    line."""
     lines = [(b"", b"")]
     for token in TOKEN.findall(text):
         line, commands = lines[-1]
@@ -36,7 +36,7 @@ def telnet_lines(text):
 
 
 def seen_before(lines, at):
-    """The lines before one of a desk's, and what the desk may have seen there."""
+    """Returns the lines before a line of a desk, and what the desk may have seen there."""
     number = lines[at].split(b" ")[0]
     if not number.isdigit():
         return
@@ -57,9 +57,10 @@ class RefusedMemory(Trial):
         self.texts = self.without_a_line() if answers_lines else set()
 
     def lines(self):
-        """The lines, and for each all that may have been done where it is answered `(out of memory)`: the lines before
-        it, and none of it, or its commands; or what its desk saw, as another of three desks has seen it, which its
-        world took in, or takes in later; or what it had seen before, had it looked then, since its last line."""
+        """Returns the lines. With each comes everything that may be done if the line is answered `(out of memory)`: the
+        lines before it, and none of it or its commands. A desk may also have seen what another of three desks has seen,
+        and its world may apply it now or later. Or it saw what it would have seen, had it looked then, since its last
+        line."""
         if self.is_script:
             parts = telnet_lines(self.run.text)
             lines = [line for line, _ in parts]
@@ -68,7 +69,7 @@ class RefusedMemory(Trial):
         return lines, [[[*lines[:at], b""], *seen_before(lines, at)] for at in range(len(lines))]
 
     def without_a_line(self):
-        """The texts in which one of the lines that have a reply was answered `(out of memory)`."""
+        """Returns the texts in which one of the lines that have a reply is answered `(out of memory)`."""
         lines, insteads = self.lines()
         fronts = [self.given(b"".join(lines[:count]))[1] for count in range(len(lines) + 1)]
         replied = [at for at in range(len(lines)) if fronts[at] != fronts[at + 1]]
@@ -77,8 +78,8 @@ class RefusedMemory(Trial):
         return texts - {None}
 
     def text_without(self, lines, fronts, at, other):
-        """The text where this line was answered `(out of memory)`, and these others were given in place of it and those
-        before it; None where that tells the line's reply."""
+        """Returns the text if this line is answered `(out of memory)` and these other lines stand in place of it and
+        the lines before it. Returns None if that shows the line's reply."""
         front_then = self.given(b"".join(other))[1]
         rest = self.given(b"".join([*other, *lines[at + 1 :]]))[1]
         assert rest.startswith(front_then), f"line {at + 1} is answered before it came"
@@ -88,11 +89,11 @@ class RefusedMemory(Trial):
         return front + b"(out of memory)" + (b"\r\n" if self.is_script else b"\n") + rest[len(front_then) :]
 
     def is_right(self, given, call):
-        """Whether this is how the program answers where a request is refused."""
+        """Returns whether the program may answer so after a refused request."""
         return given == self.whole or (self.calls_made() >= call and self.is_out_of_memory(*given))
 
     def is_out_of_memory(self, status, output, errors):
-        """Whether this is what the program says when it is out of memory."""
+        """Returns whether this is the program's report that memory is out."""
         if self.run.program == "mud_check":
             return (status, output, errors) == (2, b"unreadable: out of memory\n", b"")
         if self.run.program == "mud_keep":
@@ -104,7 +105,7 @@ class RefusedMemory(Trial):
 
 
 def refused_in_turn(count, run):
-    """Each request of a run."""
+    """Refuses each request of a run in turn."""
     trial = RefusedMemory(run)
     felt, faults = trial.in_turn(trial.is_right)
     if not felt:

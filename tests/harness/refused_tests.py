@@ -1,4 +1,4 @@
-"""Each request for memory of a test in Rattle is refused in turn. The test must pass all the same."""
+"""Refuses each request for memory of a test in Rattle in turn. The test must pass all the same."""
 import os
 
 from harness.parts import Skipped, part
@@ -14,7 +14,7 @@ TESTS = (
 
 
 def tests_program():
-    """The built tests of mud_tests. Only the gate builds them, so elsewhere they may be missing."""
+    """Returns the built tests of mud_tests. Only the gate builds them, so they may be missing elsewhere."""
     try:
         return tests_of("mud_tests")
     except NotBuilt as error:

@@ -1,4 +1,4 @@
-"""What tests/run itself does: it runs tests by name, and shows how a text differs and where a part breaks off."""
+"""The script tests/run itself: it runs tests by name, and shows how a text differs and where a part breaks off."""
 import contextlib
 import io
 
@@ -19,7 +19,7 @@ DIFFERENCE = r"""it differs
 
 
 def tables(count):
-    """A part of four tests, one of which fails and one of which raises."""
+    """A part of five tests: one fails, one raises an exception, and three pass."""
     count("one: sum", 1 + 1 == 2)
     count("two: sum", 1 + 1 == 3, "it is 2")
     count_each(count, lambda given: given[0] if given else "", [("one: each", ""), ("two: each", None)])
@@ -35,7 +35,7 @@ def skipped(_):
 
 
 def reported(run, *words, takes=""):
-    """What is printed of such a part with these words, and what is counted."""
+    """Returns the output of such a part with these words, and its counts."""
     total = Count()
     with contextlib.redirect_stdout(io.StringIO()) as printed:
         run_part(Part("lamps", "lamps burn", run, False, takes, False), list(words), total)

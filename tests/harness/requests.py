@@ -1,6 +1,6 @@
-"""Requests of HTTP at the port for Telnet, as the page of a stranger has a browser send them: none is played, and none
-is a session. What a request is, is written here from RFC 9112, section 3: a word, a target, and HTTP/ with a digit.
-"""
+"""HTTP requests at the Telnet port, as a stranger's page makes a browser send them. The server plays none of them and
+counts none as a session. The tests define a request after RFC 9112, section 3: a word, a target, and HTTP/ with a
+digit."""
 import contextlib
 import socket
 import time
@@ -10,10 +10,10 @@ from harness.parts import part
 from harness.server import Client
 
 LINE = b"POST /x HTTP/1.1\r\n"
-# Lines that are played where they are typed.
+# Lines that a server plays if a player types them.
 PLAYED = b"\r\nconnect Fetched\r\nsay by fetch\r\n"
 REQUEST = LINE + b"Host: 127.0.0.1:4000\r\nContent-Length: 34\r\n" + PLAYED
-# First lines that are no request, and what is answered to them.
+# First lines that are no request, and the answer to them.
 UNKNOWN = b"[0] I couldn't understand that."
 NO_REQUESTS = [b"look", b"POST", b"POST /x", b"POST /x HTTP", b"POST /x HTTP/", b"POST /x HTTP/x", b"POST  /x HTTP/1.1",
                b" POST /x HTTP/1.1", b"POST /x y HTTP/1.1", b"P0ST /x HTTP/1.1", b"POST /x http/1.1"]
@@ -23,9 +23,8 @@ TOLD = b"sent a browser's request by Telnet"
 
 
 def give(port, pieces, pause=0.002):
-    """Sends these pieces, each a moment behind the last, and reads up to the end of the connection; what came, and that
-    it goes on where it does not end.
-    """
+    """Sends these pieces with a pause between them, and reads up to the end of the connection. Returns what came; if
+    the connection goes on, says so."""
     with contextlib.closing(Client(port, SOON * 2)) as client:
         client.socket.setsockopt(socket.IPPROTO_TCP, socket.TCP_NODELAY, 1)
         with contextlib.suppress(ConnectionError):
@@ -41,24 +40,24 @@ def give(port, pieces, pause=0.002):
 
 
 def why_played(server):
-    """What a server has of such requests; nothing where it has nothing."""
+    """Returns what a server keeps of such requests, or nothing."""
     status, printed = stop(server)
     return "" if (status, printed) == (0, b"mud history 2\nend 0\n") else f"{status}, {printed}"
 
 
 def why_answered(came):
-    """What came for a request, but for the greeting; nothing where nothing did."""
+    """Returns what came for a request, except the greeting, or nothing."""
     return "" if came in (b"", GREETING + b"\r\n") else f"{came}"
 
 
 def why_whole():
-    """A request in one piece, with lines behind it."""
+    """Tries a request in one piece, with lines behind it."""
     with listening() as server:
         return why_answered(give(server.port, [REQUEST])) or why_played(server)
 
 
 def why_cut():
-    """A request that is cut in two, at each place of its first line."""
+    """Tries a request cut in two, at each place of its first line."""
     with listening() as server:
         for at in range(1, len(LINE) - 3):
             if why := why_answered(give(server.port, [REQUEST[:at], REQUEST[at:]])):
@@ -67,14 +66,14 @@ def why_cut():
 
 
 def why_slow():
-    """A request in single bytes, which takes more than a second."""
+    """Tries a request in single bytes, which takes more than a second."""
     with listening() as server:
         pieces = [bytes([byte]) for byte in LINE[:-4]]
         return why_answered(give(server.port, [*pieces, LINE[-4:] + PLAYED], 1.2 / len(pieces))) or why_played(server)
 
 
 def why_behind_blank_lines():
-    """A request behind blank lines, in one piece and in several."""
+    """Tries a request behind blank lines, in one piece and in several."""
     with listening() as server:
         for pieces in ([b"\r\n\n\r\n" + REQUEST], [b"\r", b"\n\r\n", b"\n" + REQUEST[:6], REQUEST[6:]]):
             if why := why_answered(give(server.port, pieces)):
@@ -83,9 +82,8 @@ def why_behind_blank_lines():
 
 
 def why_reset():
-    """Requests without end, each reset at once, or once the greeting came, as a browser does: none is played, and the
-    log has a line a second.
-    """
+    """Tries requests without end, each reset at once or after the greeting, as a browser does. The server plays none of
+    them and logs one line a second."""
     with listening() as server:
         began = time.monotonic()
         for number in range(TRIES):
@@ -104,7 +102,8 @@ def why_reset():
 
 
 def why_counted():
-    """Requests count for no total, hold no place of an address, and are no sessions in the log."""
+    """Returns what went wrong unless requests count for no total, hold no place of an address, and are no sessions in
+    the log."""
     with listening("--total", "1", "--per-address", "1") as server:
         for _ in range(5):
             give(server.port, [REQUEST])
@@ -116,13 +115,13 @@ def why_counted():
 
 
 def is_greeted(port):
-    """Whether one who comes now is greeted, and leaves."""
+    """Returns whether a new client is greeted, and leaves."""
     with contextlib.closing(Client(port)) as client:
         return client.line() == GREETING
 
 
 def why_refused():
-    """First lines that are no request, whole and in single bytes; and a request that is not the first line."""
+    """Tries first lines that are no request, whole and in single bytes, and a request that is not the first line."""
     with listening() as server:
         for line in NO_REQUESTS:
             for pieces in ([line + b"\r\n"], [bytes([byte]) for byte in line + b"\r\n"]):

@@ -1,4 +1,4 @@
-"""Which runs the trials take: few for every day, and on demand all that are small."""
+"""The runs for the trials: a few for every day, and on demand all that are small."""
 from typing import NamedTuple
 
 from harness.certificates import given as certificate_case
@@ -10,7 +10,7 @@ FEW_EXPLAINED = (
     ("units", "requests"), ("words", "quotes"), ("parse", "rest"), ("names", "lists"), ("key", "grouping"),
 )
 FEW_HALLS = ("two-desks", "old-answers", "closing")
-# Certificates that are accepted: a table each, and a case of it.
+# Accepted certificates: a table and a case of it.
 LIBRARY, FREE_EXITS = ("routes", "to the library"), ("free-exits", "by one exit")
 LOCKED = ("locked-walks", "questions three deep at something unlocked")
 CERTIFICATES = (
@@ -23,7 +23,7 @@ CERTIFICATES = (
 
 
 class Run(NamedTuple):
-    """A program, its words and its input, and a name for what is tried."""
+    """A program, its arguments and its input, and a name for the run."""
 
     program: str
     words: list
@@ -32,22 +32,22 @@ class Run(NamedTuple):
 
 
 def script(one, *words):
-    """A session, with these words and no others."""
+    """Returns the run of a session with these arguments and no others."""
     return Run("mud_serve", ["script", *words], one.text, " ".join([one.name, *words]))
 
 
 def check(table, case):
-    """A history and a certificate that is accepted."""
+    """Returns the run that checks a history and a certificate that is accepted."""
     return Run("mud_check", [], certificate_case(table, case), f"{table}, {case}")
 
 
 def keep(wish, *case):
-    """The history of a certificate, which is kept."""
+    """Returns the run that keeps the history of a certificate."""
     return Run("mud_keep", [wish, "-"], history_and_proof(*case)[0], f"{wish} {', '.join(case)}")
 
 
 def explain(word, one, *words):
-    """A text that is explained, or a hall, with these words and no others."""
+    """Returns the run that explains a text or a hall, with these arguments and no others."""
     return Run("mud_explain", [word, *words], one.text, f"{word} {one.name}")
 
 
@@ -56,20 +56,20 @@ def hall(name, *words):
 
 
 def history_and_proof(table, case):
-    """The history and the certificate of a case, each by itself."""
+    """Returns the history and the certificate of a case, separately."""
     text = certificate_case(table, case)
     end = text.index(b"\n", text.index(b"\nend ") + 1) + 1
     return text[:end], text[end:]
 
 
 def drawn():
-    """The map of the example, its certificate drawn in."""
+    """Returns the run that draws the map of the example with its certificate."""
     history, proof = (f"{TOP}/examples/journeys.{name}" for name in ("history", "proof"))
     return Run("mud_keep", ["map", "-", proof], read(history), "map journeys")
 
 
 def saved():
-    """The longest front of a journal with a bad line."""
+    """Returns the run that keeps the longest prefix of a journal with a bad line."""
     lines = history_and_proof(*LOCKED)[0].splitlines(keepends=True)
     return Run("mud_keep", ["recover", "-", "--front"], b"".join([*lines[:4], b"no line\n", *lines[4:]]), "the front")
 
@@ -92,8 +92,8 @@ def small_sessions():
 
 
 def small_runs():
-    """Each small session without workers and with two, some certificates, each small text that is explained, each small
-    hall."""
+    """Returns each small session without workers and with two, some certificates, each small text to explain, and each
+    small hall."""
     scripts = [script(one, *words) for one in small_sessions() for words in ((), ("--workers", "2"))]
     texts = [explain(word, one, *one.words) for word, one in explained() if one.is_small()]
     rooms = [explain("hall", one, *one.words) for one in halls() if one.is_small()]

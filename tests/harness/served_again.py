@@ -1,10 +1,10 @@
-"""Two people play at one server, once for each of its calls: requests for memory, calls that read or write, or threads
-that are asked for. That call is refused, fails, or starts no thread. A line that the server had no memory for is sent
-again; one whose session is cut off comes again, and is a guest at first. Before, in a run of its own, nothing is
-refused, and each call that reads or writes moves one byte at most.
+"""Two people play at one server, once for each of its calls: requests for memory, calls that read or write, or thread
+starts. The library refuses or fails that call, or starts no thread. The clients send a line again if the server had no
+memory for it. A player whose session is cut off comes again, as a guest at first. An earlier run refuses nothing, and
+each call that reads or writes moves one byte at most.
 
-Each run must end with status 0 and a whole history, by which all that was read is judged; or with the program's own
-words, and what was printed is then a front of such a text.
+Each run must end with status 0 and a whole history, which judges everything that the players read. Or it ends with the
+program's own words, and its printed output is then a prefix of such a text.
 """
 import contextlib
 import itertools
@@ -37,7 +37,7 @@ WORDS = ("out of memory", "write fault", "journal fault", "cannot open journal: 
 
 
 class Play:
-    """One run: the server, both clients, and all sessions that there were."""
+    """One run: the server, both clients, and all their sessions."""
 
     def __init__(self, environment, words=()):
         self.server = self.served(["--total", str(TOTAL), *words], environment)
@@ -47,11 +47,12 @@ class Play:
         return Server(program("mud_serve"), words, environment)
 
     def dial(self, _name):
-        """How a player comes."""
+        """Connects a player."""
         return Client
 
     def visit(self, name=None):
-        """Another session. Who comes just as the program ends may never hear so: here a system keeps that to itself."""
+        """Begins another session. A client that connects just as the program ends may never learn of it: some systems
+        do not say."""
         try:
             return Visit(self.server.port, self.dial(name))
         except TimeoutError:
@@ -60,7 +61,7 @@ class Play:
             raise ConnectionError("the program has ended") from None
 
     def arrive(self, name):
-        """Another session: as a guest, and then as a player. A guest's `look` is refused."""
+        """Begins another session: as a guest, and then as a player. The server refuses a guest's `look`."""
         visit = self.visits[name] = self.visit(name)
         self.sessions.append(visit.session)
         self.ask(visit, "look")
@@ -75,7 +76,7 @@ class Play:
         raise TimeoutError(f"{line!r} is not answered")
 
     def send(self, name, line):
-        """Sends a line, coming to the server first where its player is not there."""
+        """Sends a line, and connects its player first if the player is gone."""
         if name not in self.visits:
             self.arrive(name)
         if line == "quit":
@@ -84,7 +85,7 @@ class Play:
             self.ask(self.visits[name], line)
 
     def insist(self, name, line):
-        """Sends a line until it is answered, coming again where that must be."""
+        """Sends a line until it is answered, and connects again as needed."""
         for _ in range(TRIES):
             try:
                 self.send(name, line)
@@ -96,7 +97,7 @@ class Play:
         raise TimeoutError(f"{name} is not served")
 
     def cut_off(self, name):
-        """A session has broken off."""
+        """Notes that a session has broken off."""
         self.lacked += 1
         visit = self.visits.pop(name, None)
         if visit:
@@ -110,7 +111,7 @@ class Play:
                 self.visit().end()
 
     def played(self):
-        """Plays all lines; what went wrong meanwhile, as texts."""
+        """Plays all lines and returns what went wrong, as texts."""
         if self.server.port is None:
             return []
         try:
@@ -124,7 +125,7 @@ class Play:
         return []
 
     def judged(self):
-        """What is wrong with this run, as texts."""
+        """Returns what is wrong with this run, as texts."""
         faults = self.played()
         try:
             status, printed = self.server.end()
@@ -135,7 +136,7 @@ class Play:
         return faults + self.broken_off(status, printed)
 
     def broken_off(self, status, printed):
-        """What is wrong where the program ended with an error, as texts."""
+        """Returns what is wrong if the program ended with an error, as texts."""
         faults, said = [], self.server.said().decode().splitlines()
         words = [word for word in WORDS if any(line.startswith(f"mud_serve: {word}") for line in said)]
         if status not in (3, 4) or len(words) != 1 or (status == 4) != (words == ["out of memory"]):
@@ -146,12 +147,12 @@ class Play:
         return faults
 
     def is_felt(self):
-        """Whether anybody saw that a call failed."""
+        """Returns whether any client saw that a call failed."""
         return self.lacked > 0 or self.server.process.returncode != 0
 
 
 class WebPlay(Play):
-    """One run where Bob plays on the web."""
+    """A run in which Bob plays on the web."""
 
     def served(self, words, environment):
         return WebServer(*words, environment=environment)
@@ -161,7 +162,7 @@ class WebPlay(Play):
 
 
 def play(environment, call, words=(), kind=Play):
-    """A run in which this call fails. Answers whether that was felt, and what is wrong, as texts."""
+    """Runs with this call failing. Returns whether a client felt it, and what is wrong, as texts."""
     chosen = {"FAILED_CALL": str(call), "MOVED_BYTES": str(int(call == 0))}
     one = kind({**environment, **chosen}, words)
     with one.server:
@@ -172,18 +173,18 @@ def play(environment, call, words=(), kind=Play):
 
 
 def play_kept(environment, call):
-    """The same over a new journal."""
+    """Does as `play` does, over a new journal."""
     with Place() as place:
         return play(environment, call, ["--journal", place.path])
 
 
 def play_on_web(environment, call):
-    """The same where one of them plays on the web."""
+    """Does as `play` does, with one of the players on the web."""
     return play(environment, call, kind=WebPlay)
 
 
 def play_in_turn(name, played=play):
-    """A run for each call. Answers how many there were, how many of them were felt, and what is wrong, by calls."""
+    """Makes a run for each call. Returns the number of runs, how many were felt, and what is wrong, by calls."""
     counted = tempfile.NamedTemporaryFile()
     environment = {"LD_PRELOAD": library(name), "CALLS_FILE": counted.name}
     felt, wrong = 0, []
@@ -198,7 +199,7 @@ def play_in_turn(name, played=play):
 
 
 def count_all(count, played):
-    """Counts what comes of the calls of each kind."""
+    """Counts the results of failing calls of each kind."""
     for name in LIBRARIES:
         calls, felt, wrong = play_in_turn(name, played)
         print(f"served again: {name}: {calls} runs, {felt} felt, {len(wrong)} answered wrongly", flush=True)

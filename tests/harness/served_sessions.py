@@ -1,6 +1,5 @@
-"""Sessions at a server: it answers each line as a script does, by any number of workers. The sessions are those about
-journeys and meetings.
-"""
+"""Sessions at a server: with any number of workers it answers each line as a script does. The sessions are those about
+journeys and meetings."""
 import os
 
 from harness.inputs import sessions
@@ -15,12 +14,12 @@ BEFORE = b"Welcome. Type: connect NAME\r\n[0] welcome #1\r\n"
 
 
 def subject(one):
-    """What a session is about."""
+    """Returns what a session is about."""
     return os.path.basename(os.path.dirname(one.path))
 
 
 def misanswered(tried):
-    """How a server with so many workers answers a session otherwise than a script; nothing where it doesn't."""
+    """Returns how a server with this many workers answers a session otherwise than a script, or nothing."""
     one, workers = tried
     with Server(program("mud_serve"), ["--total", "1", "--workers", workers]) as server:
         client = Client(server.port)

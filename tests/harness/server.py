@@ -10,7 +10,7 @@ SECONDS = 10
 
 
 def received(connection):
-    """What came by a connection: nothing at the end, or where it was given up."""
+    """Returns what came on a connection, or nothing at the end or after a reset."""
     try:
         return connection.recv(65_536)
     except ConnectionError:
@@ -18,9 +18,8 @@ def received(connection):
 
 
 class Server:
-    """`PROGRAM listen WORD..` on a free port, which is its `port`; None where it ended before it said so. With a
-    console it is typed at. Its errors go to a file, unless it is said where else.
-    """
+    """`PROGRAM listen WORD..` on a free port, which is its `port`, or None if it ended before it said so. With a
+    console, lines can be typed at it. Its errors go to a file, unless the caller says where else."""
 
     def __init__(self, program, words=(), environment=None, console=False, errors=None, **how):
         self.errors = errors or tempfile.TemporaryFile()
@@ -32,7 +31,7 @@ class Server:
         self.port = int(first.removeprefix(b"listening on ")) if first.endswith(b"\n") else None
 
     def end(self, seconds=SECONDS):
-        """Waits until the program ends by itself; answers its status and what it printed after its first line."""
+        """Waits until the program ends by itself. Returns its status and what it printed after its first line."""
         try:
             printed, _ = self.process.communicate(timeout=seconds)
         finally:
@@ -44,12 +43,12 @@ class Server:
         self.process.stdin.write(text)
 
     def said(self):
-        """What it has written to standard error."""
+        """Returns what it has written to standard error."""
         self.errors.seek(0)
         return self.errors.read()
 
     def most_memory(self):
-        """The most memory that it has had, in bytes."""
+        """Returns the most memory that it has used, in bytes."""
         with open(f"/proc/{self.process.pid}/status") as file:
             return next(int(line.split()[1]) * 1024 for line in file if line.startswith("VmHWM"))
 
@@ -60,14 +59,14 @@ class Server:
         self.kill()
 
     def kill(self):
-        """Ends the program, if it runs yet."""
+        """Kills the program if it still runs."""
         if self.process.poll() is None:
             self.process.kill()
             self.process.wait()
 
 
 class Client:
-    """A connection to a server: lines are sent and read without their CR LF, as bytes."""
+    """A connection to a server: it sends and reads lines without their CR LF, as bytes."""
 
     def __init__(self, port, seconds=SECONDS):
         if port is None:
@@ -87,13 +86,14 @@ class Client:
         self.socket.sendall(some)
 
     def more(self):
-        """Whether more came; not so at the end, or where the connection was given up."""
+        """Reads more and returns whether any came: false at the end or after a reset."""
         some = received(self.socket)
         self.kept += some
         return bool(some)
 
     def line(self):
-        """The next whole line; None at the end, and what is `kept` is then a front of a line, or nothing."""
+        """Returns the next complete line. At the end returns None, and `kept` is then a prefix of a line, or
+        nothing."""
         while b"\r\n" not in self.kept:
             if not self.more():
                 return None
@@ -101,7 +101,7 @@ class Client:
         return line
 
     def take(self, count):
-        """The next `count` bytes, or fewer at the end."""
+        """Returns the next `count` bytes, or fewer at the end."""
         while len(self.kept) < count and self.more():
             pass
         some, self.kept = self.kept[:count], self.kept[count:]
@@ -111,10 +111,10 @@ class Client:
         self.socket.close()
 
     def close_half(self):
-        """Sends no more."""
+        """Closes the sending side."""
         self.socket.shutdown(socket.SHUT_WR)
 
     def reset(self):
-        """Gives the connection up without a word to the other side but a reset."""
+        """Resets the connection, without a word to the other side."""
         self.socket.setsockopt(socket.SOL_SOCKET, socket.SO_LINGER, struct.pack("ii", 1, 0))
         self.socket.close()

@@ -9,7 +9,7 @@ WELCOME = re.compile(r"welcome #([0-9]+)")
 
 
 class Session:
-    """What one connection sent and read, a line each. It is broken where it ended before its last line was answered."""
+    """The lines that one connection sent and read. It is broken if it ended before its last line was answered."""
 
     def __init__(self):
         self.sent, self.read = [], []
@@ -17,19 +17,19 @@ class Session:
 
 
 class Reply:
-    """An answer: to which line of which player, at which version (None for one that names none), in which words."""
+    """An answer: the line and the player that it answers, its version (None if it names none), and its words."""
 
     def __init__(self, session, player, line, version, text):
         self.session, self.player, self.line, self.version = session, player, line, version
         self.lines = [text]
 
     def is_cut(self):
-        """Whether more of it may have been lost: nothing came after it, and its session is broken."""
+        """Returns whether more of the reply may have been lost: nothing came after it, and its session is broken."""
         return self.session.session.is_broken and self.session.replies[-1] is self
 
 
 class Reading:
-    """A session, taken apart: its replies, what it heard, and which player it had from which version to which."""
+    """A session, taken apart: its replies, its notices, and its player from version to version."""
 
     def __init__(self, session):
         self.session, self.waiting = session, list(session.sent)
@@ -44,7 +44,7 @@ class Reading:
         self.judge_end()
 
     def judge_end(self):
-        """Whether each line has an answer, and nothing was heard without a player."""
+        """Checks that each line has an answer, and that no notice came without a player."""
         if self.waiting and not self.session.is_broken:
             self.faults.append(f"{self.left!r} has no answer")
         for version in self.heard:
@@ -52,7 +52,7 @@ class Reading:
                 self.faults.append(f"it hears of {version}, where it has no player")
 
     def take(self, text):
-        """One more line that was read."""
+        """Reads one more line."""
         notice, reply = NOTICE.fullmatch(text), REPLY.fullmatch(text)
         if notice:
             self.hears(int(notice[1]), notice[2])
@@ -65,14 +65,14 @@ class Reading:
             self.faults.append(f"it reads {text!r}")
 
     def hears(self, version, text):
-        """A notice of what another did."""
+        """Notes a notice of another player's change."""
         if version <= self.seen:
             self.faults.append(f"it hears of {version} after {self.seen}")
         self.seen = max(version, self.seen)
         self.heard[version] = text
 
     def is_answered(self, version, text):
-        """The first line of the answer to the line that waits longest."""
+        """Notes the first line of the answer to the oldest unanswered line."""
         if not self.waiting:
             self.faults.append(f"{text!r} answers nothing")
             return
@@ -88,7 +88,7 @@ class Reading:
             self.becomes(int(welcome[1]))
 
     def becomes(self, player):
-        """From here on it has another player, or is over."""
+        """Notes that from here on the session has another player, or is over."""
         if self.spans:
             self.spans[-1][1] = self.seen
         if player is not None:
@@ -96,6 +96,6 @@ class Reading:
             self.player = player
 
     def proofs(self):
-        """The proofs that it read whole."""
+        """Returns the proofs that it read whole."""
         whole = (it.lines[1:] for it in self.replies if it.lines[0] == "proof" and it.lines[-1] == "end")
         return ["".join(f"{line}\n" for line in lines) for lines in whole]

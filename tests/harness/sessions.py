@@ -1,4 +1,5 @@
-"""Sessions: the lines of a player, and all that a script answers. The checker accepts each proof among the answers."""
+"""Sessions: the lines of a player, and everything that a script answers. The checker accepts each proof in the
+answers."""
 import difflib
 import os
 import re
@@ -15,7 +16,7 @@ HISTORY = re.compile(rb"^\[[0-9]+\] history\n(.*?^end [0-9]+\n)", re.MULTILINE |
 
 
 def answer(command, text):
-    """The status of a program, and what it prints when it reads a text."""
+    """Returns the status of a program and its output for a text on standard input."""
     done = subprocess.run(command, input=text, stdout=subprocess.PIPE, stderr=subprocess.DEVNULL, cwd=TOP)
     return done.returncode, done.stdout
 
@@ -27,7 +28,7 @@ def shown_lines(text):
 
 
 def difference(printed, wanted):
-    """How a text differs from the wanted one, as `diff -u` shows it; nothing where they are the same."""
+    """Returns how a text differs from the expected one, as `diff -u` shows it, or nothing if they are equal."""
     if printed == wanted:
         return ""
     lines = difflib.unified_diff(shown_lines(wanted), shown_lines(printed), "wanted", "printed", n=2, lineterm="")
@@ -35,13 +36,13 @@ def difference(printed, wanted):
 
 
 def misanswered(command, one):
-    """How what a program answers to an input differs from what is wanted; nothing where it doesn't."""
+    """Returns how a program's answer to an input differs from the expected one, or nothing if it does not."""
     status, printed = answer([*command, *one.words], one.text)
     return f"the status is {status}" if status != 0 else difference(printed, one.wanted())
 
 
 def count_each(count, why_not, tests):
-    """Counts tests, each a name and what is tried; one passes where `why_not` gives no reason. Several run at once."""
+    """Counts tests, each a name and its input; a test passes if `why_not` returns no reason. Several run at once."""
     wanted = [(name, tried) for name, tried in tests if count.wants(name)]
     with ThreadPoolExecutor(os.cpu_count()) as threads:
         running = [(name, threads.submit(why_not, tried)) for name, tried in wanted]
@@ -50,17 +51,17 @@ def count_each(count, why_not, tests):
 
 
 def named(found):
-    """Inputs with their names: their paths, as seen from the top of the repository."""
+    """Returns inputs with their names: their paths from the top of the repository."""
     return [(os.path.relpath(one.path, TOP), one) for one in found]
 
 
 def without_returns(text):
-    """Lines that end with CR LF, with LF only, as in the texts that the checker reads."""
+    """Returns lines that end with CR LF as lines that end with LF, as the checker reads them."""
     return text.replace(b"\r", b"")
 
 
 def rejected(one):
-    """What the checker says of the proofs of a session that it doesn't accept; nothing where it accepts all.
+    """Returns what the checker says of the proofs of a session that it doesn't accept, or nothing if it accepts all.
 
     The session is played without `quit`, and asks for the history at its end.
     """

@@ -1,4 +1,4 @@
-"""What is read of the page in a browser, as expressions of JavaScript, and how a line is typed there."""
+"""Expressions of JavaScript that read the page in a browser, and one that types a line there."""
 
 
 def by_id(name):
@@ -10,7 +10,7 @@ def text_of(name):
 
 
 LOG, EXITS = text_of("log"), by_id("exits")
-# Whether the player's own room is drawn, and in the window.
+# Asks whether the page draws the player's own room, inside the window.
 IN_WINDOW = """(({ boxes, view }) => boxes.some(({ kind, x, y, wide, tall }) => kind === 'here' && x >= 0 && y >= 0 &&
   x + wide <= view.wide && y + tall <= view.tall))(map.picture)"""
 

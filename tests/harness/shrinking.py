@@ -7,8 +7,8 @@ are still answered wrongly.
     2: take lamp
     session 2: 'take lamp' is answered ['taken'] at 4, and not ['There is no such thing.']
 
-Of each line the first word is its session. Where the lines are answered rightly one after the other, what went wrong
-takes threads, and that is said.
+The first word of each line is its session. If all answers are right one after the other, the fault needs threads, and
+the part says so.
 """
 import heapq
 import time
@@ -24,14 +24,14 @@ SECONDS, SHOWN_STEPS, SHOWN_FAULTS, PLACES = 120, 40, 3, 64
 
 
 class Step(NamedTuple):
-    """A line, and in which session it is sent."""
+    """A line, and the session that sends it."""
 
     session: int
     line: str
 
 
 def steps_of(number, reading, claims):
-    """The lines of a session, each with its place among those of others: by its version, a change before questions."""
+    """Returns the lines of a session, each with its place among those of others: by version, changes first."""
     at = (0, 0)
     for reply in reading.replies:
         if reply.version is not None:
@@ -40,7 +40,7 @@ def steps_of(number, reading, claims):
 
 
 def in_order(sessions, history):
-    """The lines of all sessions, as they may have come one after the other; none where the history can't be read."""
+    """Returns the lines of all sessions in a possible order; none if the history can't be read."""
     if (entries := entries_of(history)) is None:
         return []
     judged = Judge(entries, sessions)
@@ -49,7 +49,7 @@ def in_order(sessions, history):
 
 
 def played(steps):
-    """Plays lines one after the other at a new server; the faults of what is read."""
+    """Plays lines one after the other at a new server. Returns the faults of the answers."""
     visits, last = {}, {step.session: at for at, step in enumerate(steps)}
     with ExitStack() as stack, Server(program("mud_serve"), console=True) as server:
         for at, step in enumerate(steps):
@@ -66,7 +66,7 @@ def played(steps):
 
 
 def faults_of(steps):
-    """What goes wrong where these lines are played, as texts. Too many sessions at once are not tried."""
+    """Returns the faults when these lines are played, as texts. It does not try too many sessions at once."""
     begun = {step.session for step in steps}
     if len(begun) > PLACES:
         return []
@@ -93,8 +93,8 @@ def fewer(steps, groups, is_wrong, until):
 
 
 def shrunk(steps, is_wrong, seconds=SECONDS):
-    """As few of the steps as are still wrong, found within some seconds: first whole sessions are left out, then lines,
-    until no line can be spared.
+    """Returns as few of the steps as are still wrong, within some seconds. It leaves out whole sessions first, and then
+    lines, until it can spare no line.
     """
     until, count = time.monotonic() + seconds, None
     steps = [Step(*step) for step in steps]

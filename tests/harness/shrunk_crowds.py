@@ -1,4 +1,4 @@
-"""What makes a crowd small that was answered wrongly: over steps where it is known what is wrong, and over a crowd."""
+"""The search for few lines of a crowd with wrong answers: over steps with known faults, and over a crowd."""
 import random
 from unittest import mock
 
@@ -14,12 +14,12 @@ RIGHT_REPLY = World.reply
 
 
 def wrong_reply(world, change):
-    """What the plain world answers to a change, wrongly where something is locked."""
+    """Returns the plain world's answer to a change, a wrong one if it locks an object."""
     return "lokked" if change.startswith("lock ") else RIGHT_REPLY(world, change)
 
 
 def count_known(count):
-    """Steps among which three are wrong together, in their order."""
+    """Tests steps with three among them that are wrong together, in their order."""
     chosen = [Step(1, "a"), Step(2, "b"), Step(1, "c")]
     others = random.Random(0).choices([Step(at, line) for at in range(9) for line in "xyz"], k=500)
     steps = [*others[:100], chosen[0], *others[100:300], chosen[1], chosen[2], *others[300:]]
@@ -37,7 +37,7 @@ def count_known(count):
 
 
 def count_played(count):
-    """A crowd whose lines are played again one after the other, rightly; and then wrongly, since the judge errs."""
+    """Tests a crowd whose lines are played again one after the other, with right answers and with a judge that errs."""
     with Server(program("mud_serve"), console=True) as server:
         crowd = Crowd(server, SECONDS, PACE)
         faults, _ = crowd.play_all(CLIENTS)

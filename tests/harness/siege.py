@@ -1,7 +1,6 @@
-"""A siege: sixty-four hostile clients of all kinds for ten minutes, while two play. Each answer to the two comes within
-BOUND, what they read is judged by the history that is printed at the end, and once the others have left, the server has
-as many descriptors as before and hardly more memory. `tests/run siege SECONDS` makes it shorter.
-"""
+"""A siege: sixty-four hostile clients of all kinds for ten minutes, while two people play. Each answer to the two comes
+within BOUND, and the history printed at the end judges what they read. Once the hostile clients have left, the server
+has as many descriptors as before and hardly more memory. `tests/run siege SECONDS` makes it shorter."""
 import multiprocessing
 import os
 import random
@@ -17,13 +16,13 @@ from harness.visit import Visit
 
 SECONDS, BOUND = 600, 0.1
 HOSTILE, IN_ONE = 64, 8
-# Each of the two asks so often; and how much memory the server may have more at the end.
+# The pause of each player between two lines, and how much more memory the server may have at the end.
 PAUSE, GROWTH = 0.05, 8_000_000
 NAMES = 8
-# What is found of the hostile, of whom nobody keeps what they read.
+# The judge's findings about the hostile clients, whose texts nobody keeps.
 STRANGERS = re.compile(r'\(player #\d+ "Guest\d"\) was answered to nobody$')
 LIMITS = ["--idle", "20", "--unnamed", "2"]
-# As docs/HOSTING.md has a server run: each further arena of the C library keeps some of what is given back to it.
+# As docs/HOSTING.md has a server run: each further arena of the C library keeps some freed memory.
 AS_HOSTED = {"MALLOC_ARENA_MAX": "1"}
 
 
@@ -47,7 +46,7 @@ def sends_no_line(client, chance):
 
 
 def reads_nothing(client, chance):
-    """Asks as much as is taken, and reads nothing for a while."""
+    """Sends as many lines as the server takes, and reads nothing for a while."""
     line = chance.choice([b"look\r\n", b"@history\r\n", b"proof route to here\r\n", b"\xff\xf6\r\n"])
     client.give(b"connect Guest%d\r\n" % chance.randrange(NAMES))
     try:
@@ -59,7 +58,7 @@ def reads_nothing(client, chance):
 
 
 def reads_bytes(client, chance):
-    """Asks, and takes a byte now and then."""
+    """Sends lines, and reads a byte now and then."""
     client.give(b"look\r\n" * 1_000)
     for _ in range(20):
         client.socket.recv(1)
@@ -67,7 +66,7 @@ def reads_bytes(client, chance):
 
 
 def sends_noise(client, chance):
-    """Sends whatever bytes."""
+    """Sends random bytes."""
     for _ in range(20):
         client.give(chance.randbytes(1_000))
 
@@ -76,7 +75,7 @@ KINDS = [comes_and_leaves, is_silent, sends_no_line, reads_nothing, reads_bytes,
 
 
 def besiege(port, end, seed):
-    """Comes again and again as one or another of them."""
+    """Comes again and again as a hostile client of a random kind."""
     chance = random.Random(seed)
     while time.monotonic() < end:
         try:
@@ -88,7 +87,7 @@ def besiege(port, end, seed):
 
 
 def besiege_all(port, end, first):
-    """So many of them, in one process."""
+    """Runs several hostile clients in one process."""
     crowd = [threading.Thread(target=besiege, args=(port, end, first + at)) for at in range(IN_ONE)]
     for one in crowd:
         one.start()
@@ -97,14 +96,14 @@ def besiege_all(port, end, first):
 
 
 def arrive(port, name):
-    """A session that is this player's."""
+    """Begins a session as this player."""
     visit = Visit(port)
     visit.ask(f"connect {name}")
     return visit
 
 
 def play(visit, end, waits):
-    """Plays until the end; how long each answer took."""
+    """Plays until the end, and notes how long each answer took."""
     at = 0
     while time.monotonic() < end:
         at += 1
@@ -115,7 +114,7 @@ def play(visit, end, waits):
 
 
 def standing(server):
-    """The descriptors and the bytes of memory that the server has."""
+    """Returns the number of descriptors and the bytes of memory of the server."""
     folder = f"/proc/{server.process.pid}"
     with open(f"{folder}/status", encoding="ascii") as file:
         memory = next(int(line.split()[1]) * 1024 for line in file if line.startswith("VmRSS"))
@@ -123,14 +122,14 @@ def standing(server):
 
 
 def crowd_once(port):
-    """All places are taken once, so that each has its desk."""
+    """Fills all places once, so that each has its desk."""
     for client in [Client(port) for _ in range(HOSTILE)]:
         client.line()
         client.close()
 
 
 def held_out(server, seconds):
-    """The waits of the two, their sessions, and what the server had before and after."""
+    """Returns the waits of the two players, their sessions, and what the server had before and after."""
     one, other = arrive(server.port, "Ann"), arrive(server.port, "Bob")
     crowd_once(server.port)
     time.sleep(1)

@@ -1,8 +1,7 @@
-"""How a server ends sessions that take too little of what is answered, and no other. One that takes nothing is ended
-once nothing could be written for a minute, by Telnet and on the web, and so is one that takes a byte a second, while
-another reads a little now and then, and two talk. What lies between server and client may take a little more on the
-way, so that lasts up to three and a half minutes.
-"""
+"""How a server ends sessions that read too little of its answers, and no others. It ends a session that reads nothing
+once it could write nothing for a minute, by Telnet and on the web. It also ends one that reads a byte a second.
+Meanwhile another session reads a little now and then, and two talk. Buffers between server and client may hold a little
+more, so the test lasts up to three and a half minutes."""
 import time
 from concurrent.futures import ThreadPoolExecutor
 
@@ -15,7 +14,7 @@ MINUTE, LATEST = 60, 200
 
 
 class Watched:
-    """A client by whose address the server's log says when its session ends."""
+    """A client with its address, so that the server's log shows how its session ends."""
 
     def __init__(self, server, client):
         self.server, self.client = server, client
@@ -27,18 +26,18 @@ class Watched:
         return self.end in self.server.said()
 
     def word(self):
-        """What ended it, as the log says."""
+        """Returns the end reason in the log."""
         return self.server.said().partition(self.end)[2].partition(b"\n")[0]
 
     def take_byte(self):
-        """Takes one byte of what came."""
+        """Reads one byte."""
         try:
             self.client.socket.recv(1)
         except OSError:
             pass
 
     def after(self, longest, meanwhile):
-        """After how many seconds its session ended, or None; meanwhile this is done each second."""
+        """Returns the seconds until its session ended, or None. Calls `meanwhile` each second."""
         while time.monotonic() < self.began + longest:
             if self.has_ended():
                 return time.monotonic() - self.began
@@ -47,7 +46,7 @@ class Watched:
         return None
 
     def fill(self):
-        """Sends lines up to when no more are taken, and reads nothing."""
+        """Sends lines until the server takes no more, and reads nothing."""
         self.client.socket.settimeout(1)
         try:
             while True:
@@ -57,8 +56,8 @@ class Watched:
 
 
 class Stuck:
-    """A server with two who take nothing, one of them on the web, one who takes a byte now and then, one who reads, and
-    two who talk."""
+    """A server with two clients that read nothing, one of them on the web, one that reads a byte now and then, one that
+    reads, and two that talk."""
 
     def __init__(self, server):
         self.deaf, self.miser, self.slow = (Watched(server, Client(server.port)) for _ in range(3))
@@ -69,12 +68,12 @@ class Stuck:
         self.waits = []
 
     def fill(self):
-        """Has them send lines up to when no more are taken."""
+        """Makes them send lines until the server takes no more."""
         with ThreadPoolExecutor() as threads:
             list(threads.map(Watched.fill, (self.deaf, self.browser, self.miser, self.slow)))
 
     def talk(self):
-        """Two talk and have their answers; the slow one reads a little, and the miser a byte."""
+        """Two talk and get their answers; the slow one reads a little, and the miser a byte."""
         began = time.monotonic()
         self.one.ask("say hello")
         self.other.ask("look")
@@ -84,7 +83,8 @@ class Stuck:
 
 
 def count_stuck(count):
-    """Counts what happens to those who take nothing or next to nothing, and to one who reads now and then."""
+    """Counts what happens to the clients that read nothing or next to nothing, and to the one that reads now and
+    then."""
     with WebServer() as server:
         stuck = Stuck(server)
         stuck.fill()

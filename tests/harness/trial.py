@@ -13,8 +13,8 @@ SHOWN_FAULTS, SHOWN_LENGTH = 5, 300
 
 
 class Trial:
-    """A run of a program, and `whole`, what it gives where no call fails: its status, its output and its errors. A
-    preloaded library counts the program's calls, and fails one of them."""
+    """A run of a program, and `whole`, its result if no call fails: its status, its output and its errors. A preloaded
+    library counts the program's calls, and fails one of them."""
 
     def __init__(self, run, failing, path=None):
         self.run, self.library = run, library(failing)
@@ -24,8 +24,8 @@ class Trial:
         self.calls = self.calls_made()
 
     def given(self, text=None, **chosen):
-        """The status, the output and the errors on the run's input, or on another text. `chosen` is what the library
-        reads in its environment: `FAILED_CALL=3`."""
+        """Returns the status, the output and the errors for the run's input, or for another text. `chosen` goes to the
+        library's environment: `FAILED_CALL=3`."""
         self.counted.truncate(0)
         chosen = {name: str(value) for name, value in chosen.items()}
         environment = {**os.environ, "LD_PRELOAD": self.library, "CALLS_FILE": self.counted.name, **chosen}
@@ -35,28 +35,28 @@ class Trial:
         return ran.returncode, ran.stdout, ran.stderr
 
     def given_if_it_ends(self, **chosen):
-        """What `given` answers, or `NO_END` where the program goes on for too long."""
+        """Returns the result of `given`, or `NO_END` if the program runs for too long."""
         try:
             return self.given(**chosen)
         except subprocess.TimeoutExpired:
             return NO_END
 
     def counted_words(self):
-        """What the library wrote at the end of the last run."""
+        """Returns the library's report at the end of the last run."""
         with open(self.counted.name, encoding="ascii") as file:
             return file.read().split()
 
     def calls_made(self):
-        """How many calls the last run made; none where it did not end by itself."""
+        """Returns how many calls the last run made: none if it did not end by itself."""
         return int((self.counted_words() or ["0"])[0])
 
     def failed_kind(self):
-        """Of which kind the call was that failed in the last run: `read`, `write` or `none`."""
+        """Returns the kind of the call that failed in the last run: `read`, `write` or `none`."""
         return (self.counted_words()[1:] or ["none"])[0]
 
     def in_turn(self, is_right, ways=("FAILED_CALL",)):
-        """Fails each call in turn, in each of the ways. Answers how many runs gave something else than the whole, and
-        what is wrong, as texts. `is_right` judges what was given, and gets the number of the call too."""
+        """Fails each call in turn, in each of the ways. Returns how many runs gave something else than the whole, and
+        what is wrong, as texts. `is_right` judges a run by its result and the number of the call."""
         felt, faults = 0, []
         for call, way in itertools.product(range(1, self.calls + 1), ways):
             given = self.given_if_it_ends(**{way: call})
@@ -67,12 +67,12 @@ class Trial:
 
 
 def shown(how, given):
-    """A run as a text that is not too long."""
+    """Returns a run as a text of limited length."""
     return f"{how}: {given}"[:SHOWN_LENGTH]
 
 
 def tell(count, name, trial, felt, faults):
-    """Counts a trial as one test, and prints how it went."""
+    """Counts a trial as one test, and prints its result."""
     what = f"{name}: {trial.run.program}, {trial.run.name}"
     print(f"{what}: {trial.calls} calls failed in turn, {felt} felt, {len(faults)} answered wrongly", flush=True)
     count(what, not faults, "; ".join(faults[:SHOWN_FAULTS]))

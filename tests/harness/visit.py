@@ -1,4 +1,4 @@
-"""A visit to a server: one session, of which all that is sent and read is kept for the judge."""
+"""A visit to a server: one session. It keeps everything that it sends and reads for the judge."""
 import time
 
 from harness.server import Client
@@ -9,7 +9,7 @@ QUICK = 0.01
 
 
 class Visit:
-    """A session that was greeted. It comes again while the server is full. `dial` makes its client."""
+    """A session that was greeted. It tries again while the server is full. `dial` makes its client."""
 
     def __init__(self, port, dial=Client):
         self.session = Session()
@@ -21,7 +21,7 @@ class Visit:
             self.client = dial(port)
 
     def read_line(self):
-        """The next line, which must come."""
+        """Returns the next line, which must come."""
         line = self.client.line()
         if line is None:
             raise ConnectionError("the end came too early")
@@ -29,7 +29,7 @@ class Visit:
         return self.session.read[-1]
 
     def ask(self, line):
-        """Sends a line, and reads up to the first line of its answer, which it gives."""
+        """Sends a line, reads up to the first line of its answer, and returns that line."""
         self.session.sent.append(line)
         self.client.send(line.encode())
         while True:
@@ -38,7 +38,7 @@ class Visit:
                 return text
 
     def end(self):
-        """Leaves, also where the server is out of memory at first, and reads all that is left."""
+        """Leaves, even if the server is out of memory at first, and reads everything that is left."""
         while self.ask("quit") == LACKING:
             pass
         self.read_rest()

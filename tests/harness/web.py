@@ -1,6 +1,5 @@
-"""The door on the web: what a browser is answered, and what the frames of a web socket do, by a client that is written
-from RFC 6455 and knows nothing of the server's code.
-"""
+"""The web listener: what it answers to a browser, and what the frames of a web socket do. The client is written from
+RFC 6455 and knows nothing of the server's code."""
 import base64
 import contextlib
 import hashlib
@@ -18,27 +17,28 @@ from harness.web_client import BINARY, CLOSE, CONTINUATION, PING, PONG, TEXT, We
 from harness.web_client import answered, closing, frame, rest_of, status, upgrade
 
 HEAD_SECONDS, MOST_HEADS, PLACES = 10, 32, 64
-# How long a message of the server is at most, and how many texts of some 800 bytes make a history of two such.
+# The longest message of the server, and how many texts of some 800 bytes make a history of two such messages.
 MOST_SENT, LINES = 65_536, 100
 OTHER_HOST, PROXY = "127.0.0.2", "https://mud.example.org"
 GREETING = b"Welcome. Type: connect NAME"
 PAGE = f"GET / HTTP/1.1\r\nHost: {HOST}\r\n\r\n".encode()
 NAMED = re.compile(rb"^[\[(]\d+[\])] ")
-# What would load something from elsewhere, or make markup of a text. The name of SVG is one, and loads nothing.
+# Text that would load something from elsewhere, or make markup of a text. The name of SVG is such a text, and loads
+# nothing.
 LOADS = rb"(?i)<[a-z][^>]*\s(?:src|href)\b|\b(?:src|href)\s*=\s*[\"']"
 OUTSIDE = re.compile(LOADS + rb"|\burl\(|@import|innerHTML|https?://(?!www\.w3\.org/2000/svg)")
 SAID = b"said"
 
 
 def free_port():
-    """A port that nobody listens at now."""
+    """Returns a port on which nothing listens now."""
     with socket.socket() as one:
         one.bind((HOST, 0))
         return one.getsockname()[1]
 
 
 class WebServer(Server):
-    """A server with a door on the web, at its `web_port`; the page's origin is its `origin`."""
+    """A server with a web listener on its `web_port`; the page's origin is its `origin`."""
 
     def __init__(self, *words, port=None, origin=None, **how):
         self.web_port = port or free_port()
@@ -53,14 +53,15 @@ class WebServer(Server):
         return WebClient(self.web_port, self.origin, **how)
 
     def come(self, _port=None):
-        """A client on the web, which comes again while the server is full. It stands for `Client` where that dials."""
+        """Returns a client on the web, which tries again while the server is full. It replaces `Client` in code that
+        connects."""
         while (client := self.dial()).turned_away():
             client.close()
             time.sleep(QUICK)
         return client
 
     def player(self, name, **how):
-        """A client on the web that has come in by this name."""
+        """Returns a client on the web that has connected by this name."""
         client = self.dial(**how)
         client.send(b"connect " + name)
         while b"welcome" not in (client.line() or b"welcome"):
@@ -68,17 +69,17 @@ class WebServer(Server):
         return client
 
     def ask(self, request, **how):
-        """All that is answered to these bytes."""
+        """Returns everything that is answered to these bytes."""
         return answered(self.web_port, request, **how)
 
     def has_place(self):
-        """Whether one more who asks to play, and closes at once, has a place."""
+        """Returns whether one more client that asks to play, and closes at once, gets a place."""
         with contextlib.closing(self.dial(first=closing(1000))) as client:
             return client.turned_away() is None
 
 
 def plain(line):
-    """A line without the number in front."""
+    """Returns a line without the number in front."""
     return None if line is None else NAMED.sub(b"", line)
 
 
@@ -140,7 +141,7 @@ ENDS = [
 
 
 def why_not_on(server, pieces, lines, others):
-    """What went otherwise where the connection is to go on; nothing where it does."""
+    """Returns what went wrong if the connection should go on, or nothing."""
     client = server.player(b"Ann")
     for piece in pieces:
         client.give(piece)
@@ -154,7 +155,8 @@ def why_not_on(server, pieces, lines, others):
 
 
 def why_not_ended(server, pieces, code):
-    """What went otherwise where the connection is to end by this code, with nothing of the last frame typed."""
+    """Returns what went wrong if the connection should end by this code with nothing of the last frame typed, or
+    nothing."""
     listener, client = server.player(b"Bob"), server.player(b"Ann")
     client.send(b"say one")
     lines = [plain(client.line())]
@@ -184,17 +186,17 @@ def web_frames(count):
 # ---- what a head is answered
 
 def head(first, *lines, host=f"Host: {HOST}"):
-    """The head of a request, with this field `Host`; with none where that is empty."""
+    """Returns the head of a request with this field `Host`, or without one if it is empty."""
     return "\r\n".join([first, *[host] * bool(host), *lines]).encode() + b"\r\n\r\n"
 
 
 def long_head(length):
-    """The head of a request for the page, of so many bytes."""
+    """Returns the head of a request for the page, `length` bytes long."""
     return PAGE[:-2] + b"A: " + b"x" * (length - len(PAGE) - 5) + b"\r\n\r\n"
 
 
 def other(request, *changes):
-    """A request with each of these texts, which stands in it once, as the other text."""
+    """Returns a request with each of these texts, which occurs in it once, replaced by the other text."""
     for old, new in changes:
         if request.count(old) != 1:
             raise ValueError(f"not once in the request: {old}")
@@ -202,7 +204,7 @@ def other(request, *changes):
     return request
 
 
-# What of an upgrade may be written otherwise. Each try: its name, and the changes.
+# The parts of an upgrade that may be written in another way. Each try: its name, and the changes.
 CONNECTION, UPGRADE = b"Connection: keep-alive, Upgrade", b"Upgrade: websocket"
 LET_IN = [
     ("a list with tabs", [(CONNECTION, b"Connection:\tkeep-alive\t,\tUpgrade\t")]),
@@ -246,12 +248,12 @@ NOT_LET_IN = [
     ("a query", [(b"GET /play ", b"GET /play?x ")], 404),
     ("HEAD to play", [(b"GET /play ", b"HEAD /play ")], 400),
 ]
-# Of the note in RFC 6455, section 4.1: its last symbol has bits beyond the 16 bytes.
+# From the note in RFC 6455, section 4.1: its last symbol has bits beyond the 16 bytes.
 NOTE_KEY = b"AQIDBAUGBwgJCgsMDQ4PEC=="
 
 
 def refusals(origin):
-    """Each try: its name, what is sent, and the status."""
+    """Returns the tries, each with its name, the bytes to send, and the status."""
     own = f"Origin: {origin}\r\n".encode()
     key = b"A" * 22 + b"=="
     old = upgrade(origin, key=key).replace(b"HTTP/1.1", b"HTTP/1.0")
@@ -301,7 +303,7 @@ def refusals(origin):
 
 
 def wrong_fields(server):
-    """Which answers lack a field that a standard asks for, or have a body where none may be."""
+    """Returns the answers that lack a field that a standard asks for, or have a body where none may be."""
     tries = [("the page", PAGE), ("404", head("GET /x HTTP/1.1")), ("400", head("GET / HTTP/1.1", host=""))]
     tries += [("426", head("GET /play HTTP/1.1", f"Origin: {server.origin}")), ("431", long_head(9000))]
     faults = []
@@ -322,9 +324,8 @@ def hashed(text):
 
 
 def why_no_page(answer):
-    """What is wrong with the page; nothing where it is whole, and its content policy allows its own style and script
-    and nothing else.
-    """
+    """Returns what is wrong with the page. Nothing is wrong if it is whole, and its content policy allows its own style
+    and script only."""
     top, _, body = answer.partition(b"\r\n\r\n")
     fields = dict(line.lower().split(b": ", 1) for line in top.split(b"\r\n")[1:])
     allowed = re.search(rb"(?i)security-policy: (.*)\r\n", top)[1]
@@ -339,7 +340,7 @@ def why_no_page(answer):
 
 
 def timed_out(server):
-    """The status that a head gets of which a byte comes each second, and after how many seconds."""
+    """Returns the status for a head that sends one byte each second, and after how many seconds it comes."""
     began = time.monotonic()
     with socket.create_connection((HOST, server.web_port), timeout=1) as slow:
         for _ in range(2 * HEAD_SECONDS):
@@ -350,7 +351,7 @@ def timed_out(server):
 
 
 def in_pieces(server, request):
-    """What is answered to a request that comes in single bytes."""
+    """Returns the answer to a request in single bytes."""
     with socket.create_connection((HOST, server.web_port), timeout=HEAD_SECONDS) as dialled:
         for byte in request:
             dialled.sendall(bytes([byte]))
@@ -361,7 +362,7 @@ def in_pieces(server, request):
 def web_heads(count):
     with WebServer() as server:
         for name, request, wanted in refusals(server.origin):
-            given = status(server.ask(request + closing(1000)))  # So that who is let in is not waited for.
+            given = status(server.ask(request + closing(1000)))  # So that no player who was let in is waited for.
             count(name, given == wanted, f"{given}")
         page = server.ask(PAGE)
         count("the page", status(page) == 200 and not why_no_page(page), why_no_page(page))
@@ -378,9 +379,8 @@ def web_heads(count):
 
 
 def why_not_bounded():
-    """What went otherwise where 32 heads are begun and one more comes; nothing where he is answered, and one of the 32
-    was sent away for him, the one that had waited longest.
-    """
+    """Returns what went wrong when 32 heads are begun and one more comes. The server must answer it, and send away the
+    head that has waited longest."""
     with WebServer() as server:
         heads = []
         for _ in range(MOST_HEADS):
@@ -402,7 +402,7 @@ def close_all(some):
 # ---- sessions on the web
 
 def why_not_together():
-    """What went otherwise where one plays on the web and one by Telnet; nothing where they meet."""
+    """Returns what went wrong when one plays on the web and one by Telnet, or nothing if they meet."""
     with WebServer() as server:
         ann, bob = server.player(b"Ann"), Client(server.port)
         bob.send(b"connect Bob")
@@ -421,7 +421,7 @@ def why_not_together():
 
 
 def why_not_stopped():
-    """What went otherwise where the server ends while one plays on the web; nothing where he is told."""
+    """Returns what went wrong when the server ends while one plays on the web. The player must get a notice."""
     with WebServer(console=True) as server:
         ann = server.player(b"Ann")
         server.type(b"stop\n")
@@ -431,7 +431,7 @@ def why_not_stopped():
 
 
 def why_not_full():
-    """What went otherwise where all places are taken; nothing where one more is told, and can come in later."""
+    """Returns what went wrong when all places are taken. The server must turn one more away, and let it in later."""
     with WebServer() as server:
         taken = [server.player(b"P%d" % number, seconds=30) for number in range(PLACES)]
         beyond = server.dial()
@@ -445,9 +445,8 @@ def why_not_full():
 
 
 def why_not_one_message_each():
-    """What went otherwise where an answer is to leave as one message, and one of more than 65,536 bytes as several of
-    at most so many; nothing where it does.
-    """
+    """Returns what went wrong with the messages of an answer. An answer is one message, and one longer than 65,536
+    bytes is several of at most that length."""
     with WebServer() as server:
         ann = server.player(b"Ann")
         for number in range(LINES):
@@ -464,9 +463,9 @@ def why_not_one_message_each():
 
 
 def why_not_behind_a_proxy():
-    """What went otherwise where the door has an address and a free port of its own, and its page the origin of a proxy;
-    nothing where who says that origin is let in there, and nobody else, and not at another address.
-    """
+    """Returns what went wrong when the web listener has its own address and a free port, and its page the origin of a
+    proxy. The server must let in a request with that origin, refuse any other origin, and not listen at another
+    address."""
     words = ["--web-port", "0", "--web-address", OTHER_HOST, "--web-origin", PROXY]
     with Server(program("mud_serve"), words) as server:
         port = int(server.process.stdout.readline().removeprefix(b"web on "))

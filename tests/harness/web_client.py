@@ -1,6 +1,5 @@
-"""A client of a web socket for the tests (RFC 6455), written from the standard alone: it sends any bytes that it is
-told, and is strict with what it reads.
-"""
+"""A client of a web socket for the tests (RFC 6455), written from the standard alone. It sends any bytes that it is
+given, and is strict with what it reads."""
 import base64
 import hashlib
 import os
@@ -11,16 +10,16 @@ from harness.server import HOST, SECONDS, received
 
 GUID = b"258EAFA5-E914-47DA-95CA-C5AB0DC85B11"
 CONTINUATION, TEXT, BINARY, CLOSE, PING, PONG = 0, 1, 2, 8, 9, 10
-TRY_AGAIN = 1013  # The code of a close for want of a place.
-SHORT, LONG = 126, 65_536  # From so many bytes on a length takes two bytes more, or eight.
+TRY_AGAIN = 1013  # The code of a close for lack of a place.
+SHORT, LONG = 126, 65_536  # From these lengths on a length takes two bytes more, or eight.
 
 
 class Broken(ValueError):
-    """The server sent what no server may."""
+    """The server sent what no server may send."""
 
 
 class NotLetIn(ConnectionError):
-    """The server refused to let a client play, by this status; None where it said nothing."""
+    """The server did not let a client play, and answered this status, or None if it said nothing."""
 
     def __init__(self, status):
         super().__init__(f"not let in: {status}")
@@ -28,9 +27,8 @@ class NotLetIn(ConnectionError):
 
 
 def frame(opcode, payload=b"", final=True, masked=True, reserved=0, claimed=None, longest=False):
-    """A frame. What is not said otherwise is right: `claimed` is the length that its head claims, and with `longest`
-    the length takes eight bytes, whatever it is.
-    """
+    """Returns a frame, correct except as its arguments say. `claimed` is the length that its head claims, and with
+    `longest` any length takes eight bytes."""
     length, mask = len(payload) if claimed is None else claimed, masked << 7
     head = bytes([final << 7 | reserved << 4 | opcode])
     if length >= LONG or longest:
@@ -46,12 +44,12 @@ def frame(opcode, payload=b"", final=True, masked=True, reserved=0, claimed=None
 
 
 def closing(code, reason=b""):
-    """A close frame with this code."""
+    """Returns a close frame with this code."""
     return frame(CLOSE, struct.pack(">H", code) + reason)
 
 
 def upgrade(origin, path="/play", key=None, extra=b""):
-    """The head of a request to play; without an origin where that is None."""
+    """Returns the head of a request to play, without an origin if that is None."""
     key = key or base64.b64encode(os.urandom(16))
     fields = [f"GET {path} HTTP/1.1", f"Host: {HOST}", "Upgrade: websocket", "Connection: keep-alive, Upgrade"]
     fields += ["Sec-WebSocket-Version: 13", *[f"Origin: {origin}"] * (origin is not None)]
@@ -59,14 +57,14 @@ def upgrade(origin, path="/play", key=None, extra=b""):
 
 
 def answered(port, request, seconds=SECONDS, host=HOST):
-    """All that is answered to these bytes, up to the end."""
+    """Returns everything that is answered to these bytes, up to the end."""
     with socket.create_connection((host, port), timeout=seconds) as dialled:
         dialled.sendall(request)
         return rest_of(dialled)
 
 
 def rest_of(dialled):
-    """All that still comes, up to the end."""
+    """Returns everything that still comes, up to the end."""
     got = b""
     try:
         while piece := dialled.recv(65_536):
@@ -77,16 +75,15 @@ def rest_of(dialled):
 
 
 def status(answer):
-    """The status of an answer of HTTP; None where it is none."""
+    """Returns the status of an HTTP answer, or None if it is no answer."""
     words = answer.split(b"\r\n")[0].split(b" ")
     return int(words[1]) if words[0] == b"HTTP/1.1" and len(words) > 1 else None
 
 
 class WebClient:
-    """A web socket to a server that let it in: lines are sent and read as those of `server.Client` are. The frames that
-    are no text are kept in `others`, as opcodes with payloads, the code and the reason of the server's close in
-    `closed` and `reason`. How many `messages` came is counted, and how long the `longest` was.
-    """
+    """A web socket to a server that let it in. It sends and reads lines as `server.Client` does. `others` keeps the
+    frames other than text, as opcodes with payloads, and `closed` and `reason` keep the code and the reason of the
+    server's close. `messages` counts the messages, and `longest` is the length of the longest."""
 
     def __init__(self, port, origin, seconds=SECONDS, first=b""):
         self.socket = self.connection(port, seconds)
@@ -107,7 +104,7 @@ class WebClient:
         self.read_frames()
 
     def connection(self, port, seconds):
-        """What carries the web socket."""
+        """Returns the connection that carries the web socket."""
         return socket.create_connection((HOST, port), timeout=seconds)
 
     def give(self, some):
@@ -123,25 +120,25 @@ class WebClient:
         self.give(b"".join(frame(TEXT, line) for line in lines))
 
     def receive(self):
-        """Whether more bytes came."""
+        """Reads more and returns whether any bytes came."""
         some = received(self.socket)
         self.frames += some
         return bool(some)
 
     def more(self):
-        """Whether more came, and reads the frames that are whole now; not so at the end."""
+        """Reads more and the frames that are whole now, and returns whether any bytes came: false at the end."""
         came = self.receive()
         self.read_frames()
         return came
 
     def read_frames(self):
-        """Takes the whole frames off the front of what came."""
+        """Takes the whole frames off the start of the received bytes."""
         while (size := self.size_of_first()) is not None:
             first, self.frames = self.frames[:size[0] + size[1]], self.frames[size[0] + size[1]:]
             self.read(first[0], first[size[0]:])
 
     def size_of_first(self):
-        """How long the head and the payload of the first frame are; None where it is not whole."""
+        """Returns the lengths of the head and the payload of the first frame, or None if it is not whole."""
         if len(self.frames) < 2:
             return None
         head, length = 2, self.frames[1]
@@ -157,7 +154,7 @@ class WebClient:
         return (head, length) if len(self.frames) >= head + length else None
 
     def read(self, first, payload):
-        """Takes one frame in: a text is whole, and UTF-8; nothing follows a close."""
+        """Reads one frame: a text must be whole and UTF-8, and nothing may follow a close."""
         if not first & 0x80 or first & 0x70:
             raise Broken(f"a frame that begins with {first:#x}")
         if self.closed is not None:
@@ -174,13 +171,14 @@ class WebClient:
             self.reason = payload[2:]
 
     def turned_away(self):
-        """The reason for which there is no place; None where it is greeted."""
+        """Returns the reason why there is no place, or None if the client is greeted."""
         while not self.messages and self.closed is None and self.more():
             pass
         return self.reason if self.closed == TRY_AGAIN else None
 
     def line(self):
-        """The next whole line; None at the end, and what is `kept` is then a front of a line, or nothing."""
+        """Returns the next complete line. At the end returns None, and `kept` is then a prefix of a line, or
+        nothing."""
         while b"\r\n" not in self.kept:
             if not self.more():
                 return None
@@ -188,7 +186,7 @@ class WebClient:
         return line
 
     def rest(self):
-        """The lines that still come, up to the end of the connection."""
+        """Returns the lines that still come, up to the end of the connection."""
         while self.more():
             pass
         lines, self.kept = self.kept.split(b"\r\n")[:-1], b""
@@ -198,5 +196,5 @@ class WebClient:
         self.socket.close()
 
     def close_half(self):
-        """Sends no more."""
+        """Closes the sending side."""
         self.socket.shutdown(socket.SHUT_WR)

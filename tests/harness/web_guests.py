@@ -1,6 +1,5 @@
-"""Guests on the web who would hold up a server, and what each gets: who sends no line, never says who he is, comes too
-often, breaks the frames, or begins a request and does not end it.
-"""
+"""Guests on the web that would hold up a server, and what each gets. They send no line, give no name, come too often,
+break the frames, or begin a request and do not end it."""
 import contextlib
 import select
 import socket
@@ -14,9 +13,9 @@ from harness.visit import QUICK
 from harness.web import PAGE, WebServer
 from harness.web_client import BINARY, PING, TEXT, closing, frame, upgrade
 
-# How long a server may take to end that is stopped while requests are begun.
+# The most seconds that a stopped server may take to end while requests are begun.
 STOPPED = 4
-# How a text message begins.
+# The first byte of a text message.
 TEXT_BEGINS = b"\x81"
 # How many browsers are heard at once, how many of one address at least, and how many come again and again.
 CHAIRS, FEW_CHAIRS, DIALLERS = 32, 6, 48
@@ -27,7 +26,8 @@ TIMES, AT_ONCE = 12, 24
 
 
 def seconds_to_close(client, meanwhile, longest=10):
-    """After how many seconds the server closes the web socket, where this is done meanwhile; None where it does not."""
+    """Returns after how many seconds the server closes the web socket, or None if it does not. Calls `meanwhile` before
+    each wait."""
     began = time.monotonic()
     client.socket.settimeout(0.25)
     while time.monotonic() < began + longest:
@@ -46,7 +46,7 @@ def is_noticed(seconds):
 
 
 def why_idle(what, sent):
-    """With `--idle 1` one who sends this four times a second is closed, and one who sends lines is not."""
+    """With `--idle 1` a client that sends this four times a second is closed, and one that sends lines is not."""
     with WebServer("--idle", "1") as server:
         player, silent = server.player(b"Ann"), server.player(b"Bob")
 
@@ -62,7 +62,7 @@ def why_idle(what, sent):
 
 
 def why_unnamed():
-    """Who does not say who he is, is closed; who has said it keeps his place."""
+    """A client that never gives a name is closed; a client that has given one keeps its place."""
     with WebServer("--unnamed", "1") as server:
         player, nobody = server.player(b"Ann"), server.dial()
         took = seconds_to_close(nobody, lambda: nobody.send(b"look"))
@@ -74,7 +74,7 @@ def why_unnamed():
 
 
 def why_per_address():
-    """One address has as many sessions as it may, by both entrances together: one more is refused."""
+    """An address has its maximum of sessions, by both listeners together: the server refuses one more."""
     with WebServer("--per-address", "2") as server:
         by_telnet, on_web = Client(server.port), server.player(b"Ann")
         by_telnet.line()
@@ -86,7 +86,7 @@ def why_per_address():
 
 
 def is_greeted(dialled):
-    """Whether the session of one who was let in began: a text comes, and no close."""
+    """Returns whether the session of a client that was let in began: a text comes, and no close."""
     got = b""
     with contextlib.suppress(ConnectionError):
         while len(got.partition(b"\r\n\r\n")[2]) < 2 and (piece := dialled.recv(1024)):
@@ -95,7 +95,7 @@ def is_greeted(dialled):
 
 
 def why_address_at_once():
-    """Of browsers of one address that end their heads at once never too many play."""
+    """Of browsers of one address that end their heads at once, never too many play."""
     with WebServer("--per-address", "1") as server, contextlib.ExitStack() as stack:
         for _ in range(TIMES):
             heads = [upgrade(server.origin) for _ in range(AT_ONCE)]
@@ -113,7 +113,7 @@ def why_address_at_once():
 
 
 def why_idle_place():
-    """Who was closed for `--idle` has no place any more, also while he does not end his connection."""
+    """A client that was closed for `--idle` has no place any more, even while it does not end its connection."""
     with WebServer("--idle", "1", "--per-address", "1") as server:
         silent = server.player(b"Ann")
         while silent.closed is None and silent.more():
@@ -126,7 +126,7 @@ def why_idle_place():
 
 
 def silent_heads(server, number):
-    """So many begin a head, and say no more."""
+    """Connects this many clients, which begin a head and send no more."""
     heads = [socket.create_connection((HOST, server.web_port), timeout=10) for _ in range(number)]
     for one in heads:
         one.sendall(b"GET / HTTP/1.1\r\nX: ")
@@ -134,7 +134,7 @@ def silent_heads(server, number):
 
 
 def seconds_for_page(server, host=OTHER_HOST):
-    """How long somebody of another address waits for the page; None where he does not get it."""
+    """Returns how long a client of another address waits for the page, or None if it does not get the page."""
     began = time.monotonic()
     with contextlib.suppress(OSError), socket.create_connection((HOST, server.web_port), 5, (host, 0)) as one:
         one.sendall(PAGE)
@@ -144,7 +144,7 @@ def seconds_for_page(server, host=OTHER_HOST):
 
 
 def why_silent_heads():
-    """Heads of one address that are begun and not ended keep the page from nobody else."""
+    """Heads of one address that are begun and not ended keep the page from no other address."""
     with WebServer() as server:
         heads = silent_heads(server, CHAIRS + 8)
         took = [seconds_for_page(server) for _ in range(3)]
@@ -162,7 +162,8 @@ def dial_again(server, until):
 
 
 def why_dialled_again():
-    """Forty-eight of one address that come again and again keep the page from nobody else for a second."""
+    """Forty-eight clients of one address that come again and again delay the page for another address by less than a
+    second."""
     with WebServer() as server, ThreadPoolExecutor(DIALLERS) as threads:
         until = time.monotonic() + 3
         for _ in range(DIALLERS):
@@ -178,7 +179,8 @@ def why_dialled_again():
 
 
 def why_chairs_of_an_address():
-    """With `--per-address 1` an address has six chairs: of more heads those that have waited longest are sent away."""
+    """With `--per-address 1` an address has six chairs: of more heads the server sends away those that have waited
+    longest."""
     with WebServer("--per-address", "1") as server:
         heads = []
         for _ in range(FEW_CHAIRS + 2):
@@ -193,7 +195,7 @@ def why_chairs_of_an_address():
 
 
 def why_talk_at_stop():
-    """Who talks without a pause is told of a stop as anybody is."""
+    """A client that talks without a pause gets the notice of a stop as others do."""
     with WebServer(console=True) as server, ThreadPoolExecutor(TALKERS) as threads:
         players = [server.player(b"P%d" % number) for number in range(TALKERS)]
         talking = [threads.submit(talk, one) for one in players]
@@ -206,7 +208,8 @@ def why_talk_at_stop():
 
 
 def talk(player):
-    """Says something over and over, and reads what comes; whether the last that came is the stop, and the close."""
+    """Says something over and over, and reads what comes. Returns whether the notice of the stop and the close come
+    last."""
     player.socket.settimeout(0.001)
     came = unsent = b""
     while player.closed is None:
@@ -221,7 +224,7 @@ def talk(player):
 
 
 def why_total():
-    """Once the total has begun on the web, who comes by either entrance is refused by the system."""
+    """Once the total has begun on the web, the system refuses a client that comes by either listener."""
     with WebServer("--total", "1") as server:
         player = server.player(b"Ann")
         was_refused = is_soon(lambda: is_refused(server.port) and is_refused(server.web_port))
@@ -247,7 +250,7 @@ def why_total_at_once():
 
 
 def why_counted():
-    """Who looks at the page, is refused or leaves unnamed does not count with `--count-players`."""
+    """A client that looks at the page, is refused or leaves unnamed does not count with `--count-players`."""
     with WebServer("--total", "1", "--count-players") as server:
         for _ in range(5):
             server.ask(PAGE)
@@ -263,7 +266,7 @@ def why_counted():
 
 
 def why_partings():
-    """The log names what ended each session, as by Telnet; a broken frame has a word of its own."""
+    """The log names the end reason of each session, as by Telnet; a broken frame has a word of its own."""
     with WebServer(console=True) as server:
         quits, closes, breaks, stays = (server.player(name) for name in (b"Ann", b"Bob", b"Cid", b"Dan"))
         quits.send(b"quit")
@@ -283,12 +286,12 @@ def why_partings():
 
 
 def why_slow_at_stop():
-    """Requests that are begun, and one who reads no page, hold back no stop."""
+    """Requests that are begun, and a client that reads no page, delay no stop."""
     with WebServer(console=True) as server:
         begun = [socket.create_connection((HOST, server.web_port), timeout=10) for _ in range(8)]
         for one in begun:
             one.sendall(b"GET / HT")
-        server.ask(PAGE)  # Connections are taken in the order in which they come, so the others are heard by now.
+        server.ask(PAGE)  # The server serves connections in order of arrival, so it has read the others by now.
         began = time.monotonic()
         server.type(b"stop\n")
         status, _ = server.end(SOON + STOPPED)

@@ -1,8 +1,7 @@
 """Wrong bodies that the prover must refuse: tests/wrong-bodies/CRATE. They have the form of those in a crate's
-must-fail/, which rt ci tries over the whole crate, and two lines more. `function: ` names the function that must lose
-its proof, as the prover prints its name or the end of that; only that function is checked, and what it calls in its
-crate, so that a try costs a fraction. `tried: ` says when: `in the gate`, or `on demand`.
-"""
+must-fail/, which `rt ci` tries over the whole crate, and two lines more. `function: ` names the function that must lose
+its proof, by its name as the prover prints it, or the end of that. A try checks only that function and the functions of
+its crate that it calls, so it costs a fraction. `tried: ` says when to try it: `in the gate`, or `on demand`."""
 import functools
 import glob
 import os
@@ -22,7 +21,7 @@ IN_GATE, ON_DEMAND = "in the gate", "on demand"
 
 @dataclass
 class Edit:
-    """A wrong body: of which crate, the lines of its file, and the changes, each a file, an old text and a new one."""
+    """A wrong body: its crate, the lines of its file, and the changes, each a file, an old text and a new one."""
 
     path: str
     function: str = ""
@@ -36,7 +35,8 @@ class Edit:
         return os.path.relpath(self.path, FOLDER)
 
     def texts(self):
-        """The texts of the files that it changes, by their paths in the crate, and which changes can't be made."""
+        """Returns the texts of the files that it changes, by their paths in the crate, and the changes that can't be
+        made."""
         texts, faults = {}, [] if self.changes else ["it changes nothing"]
         for file, old, new in self.changes:
             text = texts.get(file) or file_text(f"{TOP}/crates/{self.crate()}/{file}")
@@ -46,7 +46,7 @@ class Edit:
 
 
 def edits():
-    """All edits."""
+    """Returns all edits."""
     return [read(path) for path in sorted(glob.glob(f"{FOLDER}/*/*.edit"))]
 
 
@@ -75,7 +75,7 @@ def file_text(path):
 
 @functools.cache
 def code_of(crate):
-    """All that stands in the code of a crate."""
+    """Returns all code of a crate."""
     paths = glob.glob(f"{TOP}/crates/{crate}/src/**/*.rt", recursive=True)
     return "\n".join(map(file_text, paths))
 
@@ -84,7 +84,7 @@ def code_of(crate):
 
 
 def faults_of(edit):
-    """Why an edit can't be planted, or not tried."""
+    """Returns why an edit can't be planted, or can't be tried."""
     _, faults = edit.texts()
     name = edit.function.rpartition("::")[2]
     faults += [] if re.search(rf"fn {name}\b", code_of(edit.crate())) else [f"no such function: {edit.function}"]
@@ -92,12 +92,13 @@ def faults_of(edit):
 
 
 def promises(crate):
-    """Whether a contract of the crate says what a call answers or leaves."""
+    """Returns whether a contract of the crate says what a call returns or leaves."""
     return "ensures" in code_of(crate)
 
 
 def is_tried(crate):
-    """Whether the gate plants a wrong body of the crate. The crate of the tests needs none: nobody calls it."""
+    """Returns whether the gate plants a wrong body of the crate. The crate of the tests needs none, since no crate
+    calls it."""
     by_kit = glob.glob(f"{TOP}/crates/{crate}/must-fail/*.edit")
     return crate == "mud_tests" or bool(by_kit) or crate in {edit.crate() for edit in in_gate()}
 
@@ -119,7 +120,7 @@ def plantable(count):
 
 
 def tried(edit, texts):
-    """What the prover says of the function of an edit, where these texts stand in place of the crate's."""
+    """Returns the prover's report on the function of an edit, with these texts in place of the crate's."""
     with tempfile.TemporaryDirectory(prefix="wrong-body-") as folder:
         for one in filter(lambda one: os.path.isdir(f"{TOP}/crates/{edit.crate()}/{one}"), run().PARTS):
             shutil.copytree(f"{TOP}/crates/{edit.crate()}/{one}", f"{folder}/{one}")
@@ -135,7 +136,8 @@ def planted(edit):
 
 
 def count_refusals(count, chosen):
-    """A test for each edit, and one for the first one's function as it stands: that is proved by the same words."""
+    """Counts a test for each edit, and one for the first edit's function as it stands, which the same words must
+    prove."""
     with ThreadPoolExecutor(run().lanes()) as threads:
         right = threads.submit(tried, chosen[0], {})
         for edit, said in zip(chosen, threads.map(planted, chosen)):

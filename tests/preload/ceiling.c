@@ -1,5 +1,5 @@
-// Refuses memory beyond a ceiling. CEILING_FILE names a file of eight bytes. Once a number stands there, the program
-// that this is preloaded into may have as many bytes more than it has at its next request, and no more.
+// Refuses memory beyond a ceiling. CEILING_FILE names a file of eight bytes. Once it has a number, the program under
+// test may use this many bytes more than it has at its next request, and no more.
 
 #include <fcntl.h>
 #include <malloc.h>
@@ -9,10 +9,10 @@
 
 #include "memory.h"
 
-// One more that the C library calls its own.
+// A further internal name of the C library.
 extern void __libc_free(void *block);
 
-// How many bytes there are now, the most that there may be, and where the test says how many more there may be.
+// The present number of bytes, the greatest allowed number, and where the test says how many more are allowed.
 static int64_t held;
 static int64_t most;
 static volatile int64_t *more;
@@ -33,7 +33,7 @@ static int64_t size_of(void *block) {
     return block == NULL ? 0 : (int64_t)malloc_usable_size(block);
 }
 
-// Whether so many bytes more are too many.
+// Returns whether this many bytes more are too many.
 static int is_refused(size_t size) {
     if (more == NULL || *more == 0) {
         return 0;
@@ -47,7 +47,7 @@ static int is_refused(size_t size) {
     return 1;
 }
 
-// Counts the bytes of a block that was given.
+// Counts the bytes of an allocated block.
 static void *given(void *block) {
     __atomic_add_fetch(&held, size_of(block), __ATOMIC_SEQ_CST);
     return block;

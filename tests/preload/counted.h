@@ -1,8 +1,9 @@
-// What the libraries of this folder share: they count calls of the program that they are preloaded into, and fail some.
+// The part that the libraries of this folder share: they count calls of the program that they are preloaded into, and
+// fail some.
 //
-// FAILED_CALL is the number of the call that fails, counted from 1, and FAILED_FROM of the first of those that fail one
-// and all; where such a number is 0 or missing, it fails none. CALLS_FILE names a file into which are written, as the
-// program ends, how many calls there were, and of which kind the last one was that failed, or `none`.
+// FAILED_CALL is the number of the call that fails, counted from 1, and FAILED_FROM that of the first call from which
+// all fail; a number of 0, or a missing one, fails no call. CALLS_FILE names a file that gets, as the program ends, the
+// number of calls, and the kind of the last failed one, or `none`.
 
 #include <errno.h>
 #include <stdio.h>
@@ -21,7 +22,7 @@ static unsigned long number_in(const char *name) {
     return text == NULL ? 0 : strtoul(text, NULL, 10);
 }
 
-// What the loader does before this is not the program's.
+// Work of the loader before this is not the program's.
 __attribute__((constructor)) static void begin(void) {
     failed_call = number_in("FAILED_CALL");
     failed_from = number_in("FAILED_FROM");
@@ -38,14 +39,14 @@ __attribute__((destructor)) static void end(void) {
     }
 }
 
-// A program with threads ends by this, without what is to be done at its end: so it is done here.
+// A program with threads ends by this, without the work at a program's end, so that work is done here.
 void _exit(int status) {
     end();
     syscall(SYS_exit_group, status);
     __builtin_unreachable();
 }
 
-// Counts a call, and says whether it fails; then this is its error.
+// Counts a call, and returns whether it fails; then this is its error.
 static int is_failed(const char *kind, int error) {
     if (!is_counting) {
         return 0;

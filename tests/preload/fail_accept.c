@@ -1,5 +1,4 @@
-// Has the first calls for a connection fail in the program that it is preloaded into: as many as ACCEPT_TIMES says, by
-// the number ACCEPT_ERROR.
+// Fails the first ACCEPT_TIMES calls of `accept` of the program that it is preloaded into, with the error ACCEPT_ERROR.
 
 #define _GNU_SOURCE
 #include <dlfcn.h>

@@ -1,6 +1,6 @@
 // Fails calls by which the program that it is preloaded into reads or writes: `read`, `write`, `recv` and `send`
-// (counted.h). The kind of such a call is `read` or `write`. With MOVED_BYTES=1 each call moves one byte at most.
-// After a failed write the thread shuts its next socket a moment late: so what others send there in between is seen.
+// (counted.h). The kind of such a call is `read` or `write`. With MOVED_BYTES=1 each call moves at most one byte. After
+// a failed write the thread shuts its next socket a moment late, so that texts of other threads in between are seen.
 
 #define _GNU_SOURCE
 #include <dlfcn.h>

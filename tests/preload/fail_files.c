@@ -1,4 +1,4 @@
-// Fails calls by which the program that it is preloaded into has files: `open`, `flock`, `fchmod`, `unlink`, `rename`,
+// Fails calls for files of the program that it is preloaded into: `open`, `flock`, `fchmod`, `unlink`, `rename`,
 // `fsync`, `fdatasync`, and `write` to a file (counted.h). The kind of such a call is its name.
 
 #define _GNU_SOURCE

@@ -1,4 +1,4 @@
-// Keeps the program that it is preloaded into from starting threads (counted.h).
+// Fails the thread starts of the program that it is preloaded into (counted.h).
 
 #define _GNU_SOURCE
 #include <dlfcn.h>

@@ -1,13 +1,13 @@
-// Does to a file what Linux does where it can't write bytes back: the sync answers the fault once, the bytes stay
-// readable, and no later sync writes them. So a power failure loses them.
+// Treats a file as Linux does if it can't write bytes back: the sync returns the fault once, the bytes stay readable,
+// and no later sync writes them. So a power failure loses them.
 //
-// FAILED_SYNC is the number of the `fdatasync` that fails, counted from 1; where it is missing, none does. PAGES_NOTE
-// names a file that gets a line for each call that matters, so that a harness knows what a power failure leaves:
+// FAILED_SYNC is the number of the `fdatasync` that fails, counted from 1; without it no sync fails. PAGES_NOTE names a
+// file that gets a line for each relevant call, so that a harness knows what a power failure leaves:
 //
-//     made INODE              a plain file without a byte was opened, which may be new
+//     made INODE              an empty plain file was opened, which may be new
 //     write INODE FROM TO     these bytes of it were written
-//     sync INODE              all that was written of it is on the disk, unless it was lost before
-//     lose INODE              what was written of it and not synced never gets there
+//     sync INODE              all its written bytes are on the disk, except those lost before
+//     lose INODE              its written and unsynced bytes never get there
 //     name INODE              a rename gave it its name
 //     folder                  the names in a folder are on the disk
 #define _GNU_SOURCE

@@ -1,9 +1,9 @@
-// What the libraries that refuse memory share: the C library's own calls, and those that come to `memalign`.
+// The part that the libraries that refuse memory share: the C library's own calls, and those that use `memalign`.
 
 #include <errno.h>
 #include <stdlib.h>
 
-// What the C library calls its own, so that nothing need be looked up.
+// Internal names of the C library, so that nothing need be looked up.
 extern void *__libc_malloc(size_t size);
 extern void *__libc_calloc(size_t count, size_t size);
 extern void *__libc_realloc(void *block, size_t size);

@@ -1,4 +1,4 @@
-// Notes how many bytes of a file were synced: after each fdatasync and fsync of a file that went well, the file that
+// Records how many bytes of a file were synced: after each successful fdatasync and fsync of a file, the file that
 // SYNC_NOTE names has that number of bytes. The note is written at one place, so that a kill leaves a whole one.
 #define _GNU_SOURCE
 #include <dlfcn.h>

@@ -1,4 +1,4 @@
--- The test of a conclusion decides what it is to agree.
+-- The test of a conclusion decides the agreement.
 use Rattle.std.proofs.Common.{◌≡◌, ℕ, ◌<◌, ◌≤◌, ◌⊎◌, inl, inr, List, [], ◌∷◌, length, get_or, Option, None, Some, Bool}
 use Rattle.std.proofs.Common.{true, false, ◌&&◌, refl, sym, ◌∙◌, ap, subst, arith, eqb, leb, ltb, max, suc}
 use Rattle.std.specs.Prelude.{All, Any, is_none, option_map}
@@ -76,7 +76,7 @@ to-no-worse cost room r (Some c) h = go (h c refl)
     go (inr p) = or_right (ltb cost c) (eqb cost c && leb room r)
         (and_from (eqb cost c) (leb room r) (eq-eqb cost c p.0) (le-leb room r p.1))
 
--- a room with a label stands among the labels
+-- a room with a label is among the labels
 entry-of : (es : List (ℕ × Label)) (room : ℕ) (l : Label) → label_in es room ≡ Some l → (k : ℕ) × (k < length es)
     × ((d : ℕ × Label) → (get_or es k d).0 ≡ room)
 entry-of [] room l e = absurd (cc)
@@ -95,7 +95,7 @@ with-some : (o : Option Label) (f : Label → Option ℕ) (c : ℕ) → with_lab
 with-some None f c e = absurd (cc)
 with-some (Some l) f c e = (l, refl, e)
 
--- where all are labelled, the first member's labels have the room
+-- if all members label the room, the first member's labels have it
 first-has : (ms : List Account) (room c : ℕ) → 0 < length ms → greatest_cost ms room ≡ Some c
     → (k : ℕ) × (k < length (first_labels ms)) × ((d : ℕ × Label) → (get_or (first_labels ms) k d).0 ≡ room)
 first-has [] room c some e = absurd (omega arith)
@@ -107,9 +107,9 @@ none-since : (o : Option ℕ) → ((c : ℕ) → o ≡ Some c → ⊥) → o ≡
 none-since None h = refl
 none-since (Some c) h = absurd (h c refl)
 
--- ---- what labels gather
+-- ---- the labels of a party
 
--- the labels that members have, as a conclusion is to agree with them
+-- the members' labels that the conclusion must agree with
 abbrev pub Labels : Account → ℕ → Option Label → Type 0
 Labels m room l = label_at m room ≡ l
 
@@ -124,7 +124,7 @@ record IsGathered (ms : List Account) (r k c : ℕ) : Type 0 where
   above : k ≤ c
   one : (c ≡ k) ⊎ Any (Exactly r c) ms
 
--- one more in front
+-- one more member before the others
 gathered-more : (m : Account) (ms : List Account) (r k c : ℕ) (l : Label) → label_at m r ≡ Some l
     → IsGathered ms r (max k l.cost) c → IsGathered (m ∷ ms) r k c
 gathered-more m ms r k c l f rest = record {
@@ -183,9 +183,9 @@ gathers-to ms r c g =
     let equal : found.0 ≡ c = omega (arith, found.2, other.2, cost, ap (λ (x : Label). x.cost) same) in
     found.1 ∙ ap Some equal
 
--- ---- walks that are stated
+-- ---- given walks
 
--- where a stated walk ends, and what it costs
+-- the end and the cost of a given walk
 pub arrives : (w : State) → IsSound w → (m : Account) (to : ℕ) (ss : List Step) → States w m to ss
     → arrival_of w m ≡ Some (to, (total 0 ss).cost)
 arrives w sound m to ss states =
@@ -194,7 +194,7 @@ arrives w sound m to ss states =
     let there : ℕ → Option (ℕ × ℕ) = λ n. Some (n, (total 0 ss).cost) in
     ap (arrival w m.from) states.stated ∙ ap at t.same ∙ ap there t.ends
 
--- a stated walk to the room, at the cost of its label
+-- a given walk to the room, at the cost of its label
 pub record Comes (w : State) (form : Form) (m : Account) (to cost : ℕ) : Type 0 where
   pub steps : List Step
   pub states : States w m to steps
@@ -225,7 +225,7 @@ comes-to w sound form m i to l (ss, states) e =
     let same : total (hop_of form) own.steps ≡ l = cc in
     there ∙ ap (λ (c : ℕ). Some (to, c)) (sym own.costs ∙ ap (λ (x : Label). x.cost) same)
 
--- what has a label is a room
+-- a labelled object is a room
 labelled-room : (w : State) (form : Form) (m : Account) → IsMember w form m → (room : ℕ) (l : Label)
     → label_at m room ≡ Some l → is_room w room ≡ true
 labelled-room w form m i room l e =

@@ -1,4 +1,4 @@
--- A number that is read is the one that was written, and what was written is read again.
+-- Reading a written number gives the number.
 use Rattle.std.proofs.Common.{◌≡◌, ℕ, ◌+◌, ◌-◌, ◌*◌, ◌/◌, ◌%◌, ◌^◌, ◌<◌, ◌≤◌, ◌⊎◌, inl, inr, List, [], ◌∷◌, ◌++◌, None}
 use Rattle.std.proofs.Common.{Some, true, false, cond, eqb, leb, ltb, refl, sym, ◌∙◌, ap, subst, arith, append_assoc}
 use Rattle.std.specs.Fmt.{decimal}
@@ -19,7 +19,7 @@ digit-range b e = let p = and_parts (leb ZERO b) (leb b NINE) e in (leb-true ZER
 is-digit : (b : ℕ) → ZERO ≤ b → b ≤ NINE → is_digit b ≡ true
 is-digit b lo hi = and_from (leb ZERO b) (leb b NINE) (le-leb ZERO b lo) (le-leb b NINE hi)
 
--- digits only add
+-- further digits never make the number smaller
 pub grows : (n : ℕ) (bs : List ℕ) → n ≤ (digits_on n bs).0
 grows n [] = omega arith
 grows n (b ∷ bs) = go (grows (n * 10 + (b - ZERO)) bs) (cases_Bool (is_digit b))
@@ -67,7 +67,7 @@ takes-on n (b ∷ bs) some fits = go (takes-on (n * 10 + (b - ZERO)) bs) (cases_
     go again (inr e) = ap (λ (p : ℕ × List ℕ). decimal p.0 ++ p.1)
         (sym (cond-false (is_digit b) (digits_on (n * 10 + (b - ZERO)) bs) (n, b ∷ bs) e))
 
--- the digits of a number are read on as that number
+-- reading the digits of a number gives the number
 reads-on : (n : ℕ) → n < 2 ^ 64 → (rest : List ℕ) → digits_on 0 (decimal n ++ rest) ≡ digits_on n rest
 reads-on n fits = decimal_by_steps (λ n ds. (rest : List ℕ) → digits_on 0 (ds ++ rest) ≡ digits_on n rest)
     (λ n small rest.
@@ -87,7 +87,7 @@ small-some p q e =
     let r = cond_some (ltb p.0 AMOUNTS) p q e in
     (r.1, ltb-true p.0 AMOUNTS r.0)
 
--- what is read is spelled so
+-- the number that is read has this spelling
 pub number-takes : (bytes : List ℕ) (q : ℕ × List ℕ) → number_at bytes ≡ Some q
     → (bytes ≡ decimal q.0 ++ q.1) × (q.0 < AMOUNTS)
 unfolding number_at
@@ -125,7 +125,7 @@ number-takes (b ∷ bs) q e = go (cases_Bool (eqb b ZERO)) (cases_Bool (is_digit
           r.1,
         )
 
--- a number but 0 begins with a digit but 0
+-- a number other than 0 begins with a digit other than 0
 record Begins (n : ℕ) (ds : List ℕ) : Type 0 where
   head : ℕ
   tail : List ℕ
@@ -156,7 +156,7 @@ begins n fits = decimal_by_steps Begins
     })
     n fits
 
--- what is spelled so is read, where no digit follows
+-- the spelling is read back if no digit follows
 pub number-again : (n : ℕ) (rest : List ℕ) → n < AMOUNTS → digits_on n rest ≡ (n, rest)
     → number_at (decimal n ++ rest) ≡ Some (n, rest)
 unfolding number_at

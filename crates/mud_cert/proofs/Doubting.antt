@@ -1,4 +1,4 @@
--- The doubts of a member: what his tests answer is the first that holds of him.
+-- The doubts of a member: the tests return the first one that holds.
 use Rattle.std.proofs.Common.{◌≡◌, ℕ, zero, suc, ◌<◌, ◌≤◌, ◌⊎◌, inl, inr, List, take, All, Option, None, Some, Bool}
 use Rattle.std.proofs.Common.{true, false, not, refl, sym, ◌∙◌, ap, subst, arith, eq-eqb}
 use Rattle.std.specs.Prelude.{Contains, option_map, option_and_then, IsSomeAnd}
@@ -42,7 +42,7 @@ rank (doubts.WalkLocked p i) = 6
 rank (doubts.WalkCost p) = 7
 rank doubts.Conclusion = 8
 
--- the doubt holds by its test
+-- the doubt holds by its own test
 abbrev pub Raises : State → Form → List Account → Account → Doubt → Type 0
 Raises w form earlier m d = Holds w form earlier m (rank d) d
 
@@ -151,7 +151,7 @@ lowest-to w sound form m x b least = go (find (breaks w form m) (numbers w)) ref
         ap Some (equal y (least y (breaks-from w sound form m y r.0))
         (λ lt. fails (breaks w form m x) (r.1 x (omega arith) lt) (breaks-to w sound form m x b)))
 
--- ---- what is answered holds
+-- ---- a returned doubt holds
 
 given-holds : (w : State) → IsSound w → (form : Form) (earlier : List Account) (m : Account) (d : Doubt)
     (o : Option (List ℕ)) → m.walk ≡ o
@@ -257,7 +257,7 @@ member-holds w sound form earlier m d e = one (or-some s1 (s2 or s3 or s4 or s5)
         subst (Raises w form earlier m) r.1 (refl, refl, λ n. fails (is_new w earlier m) r.0 (new-to w earlier m n))
     one (inr h) = two (or-some s2 (s3 or s4 or s5) d h.1)
 
--- ---- what holds is answered by its own test
+-- ---- a doubt that holds is returned by its own test
 
 abbrev broken-doubt : State → Account → Option (List ℕ) → Option Doubt
 broken-doubt w m o =
@@ -337,7 +337,7 @@ tested w sound form earlier m (doubts.WalkCost p) h =
 tested w sound form earlier m doubts.Conclusion h = absurd h
 tested w sound form earlier m doubts.OutOfMemory h = absurd h
 
--- of a member one doubt of each rank holds at most
+-- at most one doubt of each rank holds for a member
 pub one-of : (w : State) → IsSound w → (form : Form) (earlier : List Account) (m : Account) (d e : Doubt)
     → Raises w form earlier m d → Raises w form earlier m e → rank d ≡ rank e → d ≡ e
 one-of w sound form earlier m d e h k same =
@@ -345,9 +345,9 @@ one-of w sound form earlier m d e h k same =
     ∙ tested w sound form earlier m e k in
     cc
 
--- ---- no doubt of a lower rank than the one that is answered holds
+-- ---- no doubt with a lower rank than the returned one holds
 
--- the rank of an answer, above all where there is none
+-- the rank of a result, above all ranks if there is no doubt
 abbrev pub top : Option Doubt → ℕ
 top None = 9
 top (Some d) = rank d

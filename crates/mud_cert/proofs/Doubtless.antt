@@ -1,4 +1,4 @@
--- No doubt of a member: what it means, both ways.
+-- A member without doubts, in both directions.
 use Rattle.std.proofs.Common.{◌≡◌, ℕ, ◌+◌, ◌<◌, ◌≤◌, ◌⊎◌, inl, inr, List, [], ◌∷◌, map, Option, None, Some, Bool, true}
 use Rattle.std.proofs.Common.{false, not, ◌&&◌, cond, refl, sym, ◌∙◌, ap, arith, eqb, leb, ltb}
 use Rattle.std.specs.Prelude.{Contains, option_map, option_and_then}
@@ -124,7 +124,7 @@ and-then : (a b : Bool) → a ≡ true → (a && b) ≡ false → b ≡ false
 and-then true b e f = f
 and-then false b e f = absurd (false≢true e)
 
--- an exit that breaks nothing leads to a label that is at most the one a step on
+-- an exit that breaks nothing leads to a label that is at most the label after the step
 pub kept-by : (w : State) → IsSound w → (form : Form) (m : Account) (room : ℕ) (l : Label) (s : Step)
     → label_at m room ≡ Some l → Contains (roads_of w m.player room) s → breaks w form m s.exit ≡ false
     → Reaches (label_at m) s.to (after (hop_of form) l s)
@@ -139,7 +139,7 @@ kept-by w sound form m room l s e c fails =
     ∙ ap (λ o. is_kept hop o (label_at m s.to) s) e) ∙ kept in
     kept-some hop l (label_at m s.to) s whole
 
--- the labels are valid exactly where no exit breaks them
+-- the labels are valid exactly if no exit breaks them
 pub steps-from : (w : State) → IsSound w → (form : Form) (m : Account) → find (breaks w form m) (numbers w) ≡ None
     → (room : ℕ) (l : Label) (s : Step) → label_at m room ≡ Some l → Contains (roads_of w m.player room) s
     → Reaches (label_at m) s.to (after (hop_of form) l s)

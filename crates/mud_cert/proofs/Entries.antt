@@ -1,4 +1,4 @@
--- The laws of labels and walks.
+-- Reading and writing of labels and walks.
 use Rattle.std.proofs.Common.{◌≡◌, ◌≢◌, ℕ, suc, ◌<◌, true, false, cond, List, [], ◌∷◌, ◌++◌, length, get_or, Option}
 use Rattle.std.proofs.Common.{None, Some, refl, sym, ap, subst, ◌∙◌, append_assoc, arith, inl, inr, ◌⊎◌, All}
 use Rattle.std.specs.Prelude.{codes, AllPairs, IfSome}
@@ -50,7 +50,7 @@ abbrev exits_text : Form → ℕ → List ℕ
 exits_text One n = []
 exits_text Two n = codes "/" ++ decimal n
 
--- what an entry of a labels line keeps
+-- the invariant of an entry of a labels line
 abbrev pub IsRead : Form → ℕ × Label → Type 0
 IsRead form e = IsNumber e.0 × IsAmount e.1.cost × Counts form e.1.exits
 
@@ -71,7 +71,7 @@ unfolding exits_at
 exits-again One n rest zeroed h = ap (λ (k : ℕ). Some (k, rest)) (sym zeroed)
 exits-again Two n rest few h = rw (after-front (codes "/") (decimal n ++ rest)) (number-read n rest few h)
 
--- what stands after a cost is no digit
+-- no digit follows a cost
 exits-stop : (form : Form) (n : ℕ) (rest : List ℕ) → NoDigit rest → NoDigit (exits_text form n ++ rest)
 exits-stop One n rest h = h
 exits-stop Two n rest h = refl
@@ -138,7 +138,7 @@ entry-starts Two e = (codes "#" ++ decimal e.0 ++ codes ":" ++ decimal e.1.cost 
 pub entry-reader : (form : Form) → IsReader (entry_at form) (entry_text form) (IsRead form)
 entry-reader form = record { takes = entry-takes form; again = entry-again form; starts = entry-starts form }
 
--- ---- rising labels
+-- ---- sorted labels
 
 abbrev Below : ℕ × Label → ℕ × Label → Type 0
 Below d e = d.0 < e.0

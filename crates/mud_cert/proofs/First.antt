@@ -1,4 +1,4 @@
--- What the tests of a certificate answer is the first doubt that holds, and none is answered where none holds.
+-- The tests of a certificate return the first doubt that holds, and none if none holds.
 use Rattle.std.proofs.Common.{◌≡◌, ℕ, zero, suc, take, drop, ◌<◌, ◌≤◌, ◌⊎◌, inl, inr, List, [], ◌∷◌, ◌++◌, length}
 use Rattle.std.proofs.Common.{Option, None, Some, false, refl, sym, ◌∙◌, ap, subst, arith, append_assoc, append-nil}
 use Rattle.std.proofs.Common.{length-append}
@@ -23,7 +23,7 @@ use Rattle.mud_cert.proofs.Valid.{peopled, passed-is-valid}
 
 -- ---- places in a list
 
--- two partings of a list at a member
+-- a list split in two ways at a member
 data Parts (front other : List Account) (m n : Account) : Type 0 where
   Earlier : length front < length other → (more : List Account) → other ≡ front ++ m ∷ more → Parts front other m n
   Same : front ≡ other → m ≡ n → Parts front other m n
@@ -48,7 +48,7 @@ parts (f ∷ front) m behind (o ∷ other) n rest e =
 
 -- ---- the members' tests
 
--- the member whose doubt is answered, and those before him, of whom none is
+-- the member whose doubt is returned, and the members before it, which have none
 record Found (w : State) (form : Form) (earlier ms : List Account) (d : Doubt) : Type 0 where
   front : List Account
   member : Account
@@ -88,7 +88,7 @@ found w form earlier (m ∷ ms) d e = go
               (append_assoc earlier (m ∷ []) r.front) r.doubt;
         }
 
--- where none is answered of members, none is of each
+-- if the members have no doubt, each has none
 quiet-at : (w : State) (form : Form) (earlier front : List Account) (m : Account) (behind : List Account)
     → members_doubt w form earlier (front ++ m ∷ behind) ≡ None → member_doubt w form (earlier ++ front) m ≡ None
 quiet-at w form earlier [] m behind e =
@@ -112,7 +112,7 @@ rank-low w form earlier m (doubts.WalkCost p) h = omega arith
 rank-low w form earlier m doubts.Conclusion h = absurd h
 rank-low w form earlier m doubts.OutOfMemory h = absurd h
 
--- where none is answered of the member, none holds of him
+-- if the tests of a member return no doubt, none holds for it
 not-held : (w : State) → IsSound w → (form : Form) (earlier : List Account) (m : Account) (d : Doubt)
     → member_doubt w form earlier m ≡ None → Raises w form earlier m d → ⊥
 not-held w sound form earlier m d none h =
@@ -120,7 +120,7 @@ not-held w sound form earlier m d none h =
     let low : rank d ≤ 7 = rank-low w form earlier m d h in
     omega (arith, high, low)
 
--- the doubt holds of the member at this place
+-- the doubt holds for the member at this place
 record HoldsOf (w : State) (c : Certificate) (at : ℕ) (d : Doubt) : Type 0 where
   earlier : List Account
   member : Account
@@ -135,7 +135,7 @@ parted [] at m e = absurd (cc)
 parted (x ∷ ms) zero m e = let same : x ≡ m = cc in (ap (λ (y : Account). y ∷ ms) same, refl)
 parted (x ∷ ms) (suc at) m e = let rest = parted ms at m e in (ap (λ (ys : List Account). x ∷ ys) rest.0, ap suc rest.1)
 
--- the same, as it is stated
+-- likewise, as it is stated
 member-of : (w : State) (c : Certificate) (at n : ℕ) (d : Doubt) (m : Account) → slice_get c.members at ≡ Some m
     → Holds w c.form (take at c.members) m n d → HoldsOf w c at d
 member-of w c at n d m e h =
@@ -180,7 +180,7 @@ members-quiet w sound c k e none h =
     subst (λ (ms : List Account). members_doubt w c.form [] ms ≡ None) h.parts none in
     not-held w sound c.form h.earlier h.member e (quiet-at w c.form [] h.earlier h.member h.later whole) h.holds
 
--- a doubt that holds of a member doesn't come before the one that is answered
+-- a doubt of a member does not come before the returned one
 members-first : (w : State) → IsSound w → (c : Certificate) (d : Doubt) (f : Found w c.form [] c.members d) (k : ℕ)
     (e : Doubt) → HoldsOf w c k e
     → (length f.front < k) ⊎ ((length f.front ≡ k) × (rank d ≤ rank e))
@@ -259,7 +259,7 @@ answered-first w sound c is d e = go
     go (inr (quiet, h)) = let r =
         unless-some (concludes w c.members c.conclusion) doubts.Conclusion d h in conclusion quiet r.0 r.1
 
--- where none is answered, none holds
+-- if no doubt is returned, none holds
 none-held : (w : State) → IsSound w → (c : Certificate) → IsCertificate c → first_doubt w c ≡ None
     → (at n : ℕ) (d : Doubt) → HoldsAt w c at n d → ⊥
 none-held w sound c is none at n d h =
@@ -270,7 +270,7 @@ none-held w sound c is none at n d h =
       | inr other ↦ other.3 ((passed-is-valid w sound c is).0 none).conclusion
     ]
 
--- at each place one doubt of a test holds at most
+-- at each place, at most one doubt of each test holds
 one-at : (w : State) → IsSound w → (c : Certificate) (k j n : ℕ) (d e : Doubt) → HoldsAt w c k n d
     → HoldsAt w c j n e → k ≡ j → d ≡ e
 one-at w sound c k j n d e (inr h) (inr i) at = h.2 ∙ sym i.2
@@ -318,7 +318,7 @@ valid_or_doubted w sound c is = go (first_doubt w c) refl
     go None e = inl ((passed-is-valid w sound c is).0 e)
     go (Some d) e = inr (d, answered-first w sound c is d e)
 
--- a doubted certificate isn't valid
+-- a certificate with a doubt is not valid
 pub doubted-invalid : (w : State) → IsSound w → (c : Certificate) → IsCertificate c → (d : Doubt)
     → IsFirstDoubt w c d → IsValid w c → ⊥
 doubted-invalid w sound c is d f v = none-held w sound c is ((passed-is-valid w sound c is).1 v) f.at f.test d f.holds

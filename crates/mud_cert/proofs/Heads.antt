@@ -1,4 +1,4 @@
--- The laws of the first lines, of a member's first line, and of conclusions.
+-- Reading and writing of the first lines, of a member's first line, and of conclusions.
 use Rattle.std.proofs.Common.{◌≡◌, ℕ, true, false, List, ◌++◌, Option, None, Some, refl, sym, ap, subst, ◌∙◌}
 use Rattle.std.proofs.Common.{append_assoc, inl, inr, ◌⊎◌}
 use Rattle.std.specs.Prelude.{codes, IfSome}
@@ -112,7 +112,7 @@ member-again player from p f =
     )
     refl
 
--- no conclusion is a member's first line
+-- a conclusion is not a member's first line
 pub member-not : (c : Conclusion) → member_at (conclusion_line c) ≡ None
 unfolding member_at after
 member-not (Route to (Some cost)) = refl
@@ -228,7 +228,7 @@ meeting-again room cost low few =
       cost-again cost few,
     ) refl
 
--- a meeting's line is no route's
+-- a meeting's line is not a route's
 route-not : (rest : List ℕ) → route_at (codes "meet #" ++ rest) ≡ None
 unfolding route_at after
 route-not rest = refl

@@ -1,4 +1,4 @@
--- Where the first LF stands, a line ends.
+-- A line ends at the first LF.
 use Rattle.std.proofs.Common.{◌≡◌, ◌≢◌, ℕ, ◌<◌, List, ◌∷◌, ◌++◌, length, take, drop, slice_index, get_or, Some, None}
 use Rattle.std.proofs.Common.{sym, ap, ◌∙◌, arith, length-take}
 use Rattle.std.proofs.lemmas.Grind.{common_steps}
@@ -10,7 +10,7 @@ use Rattle.mud_key.specs.Lines.{HasNoLineFeed}
 in-front : (bytes : List ℕ) (at i : ℕ) → i < length (take at bytes) → get_or (take at bytes) i 0 ≡ slice_index bytes i
 in-front bytes at i lt = grind (arith, common_steps)
 
--- what stands before the first LF is a line, and the bytes go on with that LF
+-- the bytes before the first LF are a line, and that LF follows
 pub cut-at : (bytes line ended : List ℕ) (at : ℕ) → IsFirstByte (is_byte LF) bytes (Some at) → line ≡ take at bytes
     → ended ≡ drop at bytes
     → HasNoLineFeed line × (bytes ≡ line ++ LF ∷ drop 1 ended)

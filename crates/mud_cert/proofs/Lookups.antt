@@ -1,4 +1,4 @@
--- The label that a search finds is the first one of the room.
+-- The label that the search finds is the first one of the room.
 use Rattle.std.proofs.Common.{◌≡◌, ℕ, ◌<◌, List, [], ◌∷◌, length, get_or, None, Some, Bool, true, false, cond, refl, ap}
 use Rattle.std.proofs.Common.{◌∙◌, eqb, zero, suc, arith, eq-eqb}
 use Rattle.std.specs.Prelude.{option_map}
@@ -23,7 +23,7 @@ label-behind e es room other =
 pub rises-tail : (e : ℕ × Label) (es : List (ℕ × Label)) → Rises (e ∷ es) → Rises es
 rises-tail e es r i j d lt within = r (suc i) (suc j) d (omega arith) (omega arith)
 
--- at the room of a place stands that place's label
+-- the label at a place is found by its room
 pub label-found : (es : List (ℕ × Label)) (room i : ℕ) (d : ℕ × Label) → Rises es → i < length es
     → (get_or es i d).0 ≡ room → label_in es room ≡ Some (get_or es i d).1
 label-found [] room i d r lt e = absurd (omega arith)
@@ -34,7 +34,7 @@ label-found (x ∷ es) room (suc i) d r lt e =
     label-behind x es room (ne_eqb x.0 room other)
     ∙ label-found es room i d (rises-tail x es r) (omega arith) e
 
--- a room that stands at no place has no label
+-- a room that is at no place has no label
 pub label-missing : (es : List (ℕ × Label)) (room : ℕ)
     → ((i : ℕ) (d : ℕ × Label) → i < length es → (get_or es i d).0 ≡ room → ⊥) → label_in es room ≡ None
 label-missing [] room none = refl

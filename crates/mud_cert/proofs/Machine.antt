@@ -1,4 +1,4 @@
--- Each line that is read goes on with the text, each text is read to its end, and each stage begins a text.
+-- Each accepted line continues the text, each text is read to its end, and each stage begins a text.
 use Rattle.std.proofs.Common.{◌≡◌, ℕ, ◌<◌, ◌≤◌, true, leb, ltb, List, [], ◌∷◌, ◌++◌, length, get_or, Option, None, Some}
 use Rattle.std.proofs.Common.{refl, sym, ap, subst, ◌∙◌, append_assoc, length-append, arith, inl, inr, ◌⊎◌, All}
 use Rattle.std.specs.Prelude.{codes}
@@ -84,7 +84,7 @@ at-most-8 : (count : ℕ) (c : Conclusion) → IsConclusion count c → count �
 at-most-8 count (Route to cost) i = omega (arith, i.0)
 at-most-8 count (Meet meeting) i = i.1
 
--- a conclusion that suits the members makes a certificate
+-- a conclusion that is possible for the members completes a certificate
 pub closes : (p : Opening) (c : Conclusion) → IsOpening p → IsWithin c → suits (length p.members) c ≡ true
     → IsCertificate (certificate_with p c)
 closes p c o w s = record {
@@ -130,9 +130,9 @@ unfolding lines_of cert_lines
 whole-lines c = sym
     (append_assoc (opening_lines c.form c.version c.members) (conclusion_line c.conclusion ∷ []) (codes "end" ∷ []))
 
--- ---- one line more
+-- ---- one more line
 
--- what is said with one line more
+-- the stage after one more line
 abbrev pub GoesOn : Stage → List ℕ → Stage → Type 0
 GoesOn s line t = IsStage t × (lines_of t ≡ lines_of s ++ line ∷ [])
 
@@ -293,7 +293,7 @@ run-members p (a ∷ team) c are counts few w s =
     (subst (λ (ms : List Account). suits (length ms) c ≡ true) (sym regrouped) s)
     ∙ ap (λ (ms : List Account). Some (Whole (certificate_with (record p { members = ms }) c))) regrouped
 
--- the lines of a certificate say it
+-- the lines of a certificate lead to it
 pub cert-runs : (c : Certificate) → IsCertificate c → run Nothing (cert_lines c) ≡ Some (Whole c)
 unfolding cert_lines next
 cert-runs c is =
@@ -343,7 +343,7 @@ unfolding lines_of
 begins-with p c o w s = shorter (Open p) (Concluded (certificate_with p c)) (conclusion_line c) refl
     (begins-concluded (certificate_with p c) (closes p c o w s))
 
--- some members, with a conclusion of no way or no room
+-- some members, with a conclusion that there is no way or no room
 begins-some : (p : Opening) → IsOpening p → 0 < length p.members → Starts (lines_of (Open p))
 begins-some p o some = go (cases_eq (length p.members) 1)
   where

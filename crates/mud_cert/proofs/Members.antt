@@ -1,4 +1,4 @@
--- No doubt of the members: they are distinct and each is as he must be.
+-- Members without doubts: they are distinct, and each satisfies its conditions.
 use Rattle.std.proofs.Common.{◌≡◌, ◌≢◌, ◌⊎◌, inl, inr, ℕ, ◌-◌, ◌<◌, List, [], ◌∷◌, ◌++◌, map, length, get_or, Option}
 use Rattle.std.proofs.Common.{None, Some, Bool, true, false, not, zero, suc, refl, sym, ◌∙◌, ap, subst, arith, eqb}
 use Rattle.std.proofs.Common.{append_assoc, append-nil, length-append}
@@ -45,7 +45,7 @@ named w [] = refl
 named w (x ∷ xs) = ap (λ n. n ∷ map (λ (s : Step). s.exit) (steps_of w xs)) (step-exit w x)
     ∙ ap (λ ns. x ∷ ns) (named w xs)
 
--- the steps of the exits of a walk that is stated are those of the walk, and it ends where it is said to
+-- the steps of the exits of a given walk are those of the walk, and its end is the given one
 pub stated-steps : (w : State) → IsSound w → (m : Account) (walk : List ℕ) (to : ℕ) (ss : List Step)
     → m.walk ≡ Some walk → States w m to ss → steps_of w walk ≡ ss
 stated-steps w sound m walk to ss given states =
@@ -58,7 +58,7 @@ pub stated-end : (w : State) → IsSound w → (m : Account) (to : ℕ) (ss : Li
     → States w m to ss → end_of m.from ss ≡ to
 stated-end w sound m to ss states = (walk-to w sound m.player m.from to 1 1 ss states.walk).ends
 
--- no walk is stated, or one that has the label of the room where it ends
+-- no walk is given, or its label is that of the room where it ends
 abbrev pub FitsLabel : State → Form → Account → Type 0
 FitsLabel w form m = (m.walk ≡ None)
     ⊎ ((to : ℕ) × (ss : List Step) × States w m to ss × (label_at m to ≡ Some (total (hop_of form) ss)))
@@ -114,11 +114,11 @@ none-passes p [] e k d lt = absurd (omega arith)
 none-passes p (m ∷ ms) e zero d lt = (or_parts (p m) (list_any p ms) e).0
 none-passes p (m ∷ ms) e (suc k) d lt = none-passes p ms (or_parts (p m) (list_any p ms) e).1 k d (omega arith)
 
--- he is a player of the world, and no earlier member
+-- the member is a player of the world, and not an earlier member
 abbrev pub IsNew : State → List Account → Account → Type 0
 IsNew w earlier m = (is_player w m.player ≡ true) × All (λ e. e.player ≢ m.player) earlier
 
--- the test of a newcomer, both ways
+-- the test of a new member, in both directions
 pub new-from : (w : State) (earlier : List Account) (m : Account) → is_new w earlier m ≡ true → IsNew w earlier m
 new-from w earlier m e =
     let test : Account → Bool = λ (x : Account). eqb x.player m.player in
@@ -133,11 +133,11 @@ new-to w earlier m n =
     list_any_none test earlier (λ k d lt. ne_eqb (get_or earlier k d).player m.player (n.1 k d lt)) in
     and_from (is_player w m.player) (not (list_any test earlier)) n.0 (not_from_false (list_any test earlier) apart)
 
--- his start is labelled 0, and each labelled number is a room
+-- the member's start is labelled 0, and each labelled number is a room
 abbrev pub IsStarted : State → Account → Type 0
 IsStarted w m = (label_at m m.from ≡ Some start_label) × All (λ (e : ℕ × Label). is_room w e.0 ≡ true) m.labels
 
--- the test of a start, both ways
+-- the test of a start, in both directions
 pub started-from : (w : State) (m : Account) → is_started w m ≡ true → IsStarted w m
 started-from w m e =
     let p = and_parts (is_label (label_at m m.from) start_label)

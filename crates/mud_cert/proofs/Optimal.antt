@@ -1,4 +1,4 @@
--- What a valid certificate concludes is the least.
+-- The conclusion of a valid certificate is optimal.
 use Rattle.std.proofs.Common.{◌≡◌, ℕ, ◌<◌, ◌≤◌, ◌⊎◌, inl, inr, List, length, get_or, None, Some, refl, sym, ◌∙◌, ap}
 use Rattle.std.proofs.Common.{subst, arith}
 use Rattle.std.specs.Prelude.{All, option_map}
@@ -22,7 +22,7 @@ use Rattle.mud_cert.specs.Laws.{ValidIsOptimal}
 use Rattle.mud_cert.proofs.Members.{stated-steps, stated-end}
 use Rattle.mud_cert.proofs.Conclusions.{Labels, Below, gathered-all, gathers-from, costless}
 
--- a stated walk has the label of the room where it ends
+-- a given walk has the label of the room where it ends
 stated-label : (w : State) → IsSound w → (form : Form) (m : Account) → IsMember w form m
     → (to : ℕ) (ss : List Step) → States w m to ss
     → label_at m to ≡ Some (total (hop_of form) ss)
@@ -47,7 +47,7 @@ stated-least w sound form m i to ss states =
     (valid_is_least (hop_of form) (roads_of w m.player) m.from (label_at m) i.labels).0 to ss states.walk
     (stated-label w sound form m i to ss states)
 
--- the label of a room where a stated walk leads is the least one
+-- the label of the end of a given walk is the least one
 goes-least : (w : State) → IsSound w → (form : Form) (m : Account) → IsMember w form m → (to : ℕ) (l : Label)
     → GoesTo w (Some to) m → label_at m to ≡ Some l
     → Least (hop_of form) (roads_of w m.player) m.from to (Some l)
@@ -57,7 +57,7 @@ goes-least w sound form m i to l (ss, states) e =
     subst (λ (x : Label). IsLeast (hop_of form) (roads_of w m.player) m.from to x) same
     (stated-least w sound form m i to ss states)
 
--- a least label is the room's label where it is labelled, and a room with a walk is labelled
+-- the least label of a labelled room is its label, and a room with a walk has a label
 record Labelled (m : Account) (to : ℕ) (least : Label) : Type 0 where
   label : Label
   there : label_at m to ≡ Some label
@@ -71,7 +71,7 @@ labelled w form m i to l least =
     let same : (total (hop_of form) least.walked.0).cost ≡ l.cost = ap (λ (x : Label). x.cost) least.walked.2 in
     record { label = r.0; there = r.1; below = omega (arith, r.2.0, same) }
 
--- the least labels of a room for all are at most those that are claimed
+-- the least labels of a room for all members are at most the claimed ones
 below : (w : State) (form : Form) (ms : List Account) (r c : ℕ) → All (IsMember w form) ms
     → Gathers (λ m. Least (hop_of form) (roads_of w m.player) m.from) ms r c → All (Below r c) ms
 below w form ms r c are g = λ i d lt.

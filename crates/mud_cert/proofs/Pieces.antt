@@ -1,4 +1,4 @@
--- Literal texts, numbers and pieces: what is read is what is spelled so, and what is spelled so is read.
+-- Literal texts, numbers and pieces: a value is read exactly from its spelling.
 use Rattle.std.proofs.Common.{◌≡◌, ℕ, zero, suc, ◌<◌, ◌≤◌, true, false, cond, eqb, leb, List, [], ◌∷◌, ◌++◌, length}
 use Rattle.std.proofs.Common.{Option, None, Some, refl, sym, ap, subst, ◌∙◌, append_assoc, length-append, arith, inl}
 use Rattle.std.proofs.Common.{inr, ◌⊎◌, All}
@@ -17,13 +17,13 @@ use Rattle.mud_cert.proofs.Digits.{number-takes, number-again}
 
 -- ---- steps
 
--- a step that found something
+-- a step that found a value
 pub bind_some : {A B : Type 0} (o : Option A) (f : A → Option B) (y : B) → (o >>= f) ≡ Some y
     → (x : A) × (o ≡ Some x) × (f x ≡ Some y)
 bind_some (Some x) f y e = (x, refl, e)
 bind_some None f y e = absurd cc
 
--- a value with nothing after it
+-- a value that no bytes follow
 pub whole_some : {A : Type 0} (x : A) (rest : List ℕ) (y : A) → whole (x, rest) ≡ Some y → (x ≡ y) × (rest ≡ [])
 unfolding whole
 whole_some x [] y e = (cc, refl)
@@ -37,19 +37,19 @@ joins all a r b s e f = e ∙ ap (λ (x : List ℕ). a ++ x) f ∙ sym (append_a
 pub ends : (all a r : List ℕ) → all ≡ a ++ r → r ≡ [] → all ≡ a
 ends all a r e f = e ∙ ap (λ (x : List ℕ). a ++ x) f ∙ append-nil a
 
--- the texts are equal where the test says so
+-- the test says that the texts are equal
 pub says-true : (a b : List ℕ) → bytes_eq a b ≡ true → a ≡ b
 says-true a b = (bytes_eq-Decides a b).0
 
 -- ---- literal texts
 
--- a literal text is found where it stands at the front
+-- a literal text is found at the beginning
 pub after-front : (literal rest : List ℕ) → after literal (literal ++ rest) ≡ Some rest
 unfolding after
 after-front [] rest = refl
 after-front (c ∷ cs) rest = cond-true (eqb c c) (after cs (cs ++ rest)) None (eq-eqb c c refl) ∙ after-front cs rest
 
--- and what is found so stands there
+-- and if it is found, the bytes begin with it
 pub after-takes : (literal bytes rest : List ℕ) → after literal bytes ≡ Some rest → bytes ≡ literal ++ rest
 unfolding after
 after-takes [] bytes rest e = cc
@@ -65,7 +65,7 @@ after-takes (c ∷ cs) (b ∷ bs) rest e = go (cases_Bool (eqb b c)) (after-take
         let bad : None ≡ Some rest = sym (cond-false (eqb b c) (after cs bs) None fails) ∙ e in
         absurd (cc)
 
--- where nothing is found, it stands nowhere at the front
+-- if it is not found, the bytes do not begin with it
 pub after-none : (literal bytes : List ℕ) → ((rest : List ℕ) → bytes ≡ literal ++ rest → ⊥) → after literal bytes ≡ None
 after-none literal bytes fails = go (after literal bytes) refl
   where
@@ -75,7 +75,7 @@ after-none literal bytes fails = go (after literal bytes) refl
 
 -- ---- numbers
 
--- no digit goes on
+-- the bytes do not begin with a digit
 abbrev pub NoDigit : List ℕ → Type 0
 NoDigit [] = Unit {0}
 NoDigit (b ∷ bs) = is_digit b ≡ false
@@ -113,7 +113,7 @@ object-alone n low = ap object_at (sym (append-nil (decimal n))) ∙ object-read
 
 -- ---- pieces
 
--- a reader of one piece takes what its text says, and reads each text again
+-- a reader of one piece consumes the piece's text, and reads each text back
 pub record IsReader {A : Type 0} (piece_at : List ℕ → Option (A × List ℕ)) (text : A → List ℕ)
     (Fits : A → Type 0) : Type 0 where
   pub takes : (bytes : List ℕ) (x : A × List ℕ) → piece_at bytes ≡ Some x → (bytes ≡ text x.0 ++ x.1) × Fits x.0
@@ -168,7 +168,7 @@ pieces-again piece_at text Fits reader (suc count) (x ∷ xs) fits room =
     let more = pieces-again piece_at text Fits reader count xs (All-tail Fits x xs fits) left in
     ap (pieces_at piece_at (suc count)) all ∙ rw (one, more) refl
 
--- what was read before, and what is still to be read
+-- the pieces read so far, and the rest
 pub record IsUnder {A : Type 0} (piece_at : List ℕ → Option (A × List ℕ)) (front : List A) (rest : List ℕ)
     (total : Option (List A)) : Type 0 where
   pub count : ℕ

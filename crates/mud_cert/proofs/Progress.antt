@@ -1,4 +1,4 @@
--- What has been read of a text: the lines before the rest, and what they say.
+-- The progress of reading a text: the lines before the rest, and their meaning.
 use Rattle.std.proofs.Common.{◌≡◌, ◌≢◌, ℕ, zero, suc, ◌+◌, ◌<◌, ◌≤◌, List, [], ◌∷◌, ◌++◌, length, take, drop}
 use Rattle.std.proofs.Common.{None, Some, refl, sym, ap, subst, ◌∙◌, append_assoc, length-append, arith, inl, inr, ◌⊎◌}
 use Rattle.std.proofs.Common.{All}
@@ -27,7 +27,7 @@ use Rattle.mud_cert.proofs.Splitting.{cut, uncut, text-then, no-lines, split-lon
 use Rattle.mud_cert.proofs.Machine.{next-keeps, run-then, run-append, run-fails, run-none, cert-runs, Starts}
 use Rattle.mud_cert.proofs.Machine.{stage-begins}
 
--- ---- reading on
+-- ---- reading further
 
 pub record Reads (bytes rest : List ℕ) (n : ℕ) (s : Stage) : Type 0 where
   pub front : List (List ℕ)
@@ -70,7 +70,7 @@ reads-more bytes rest n s t line behind r is e f =
       keeps = k.0;
     }
 
--- lines are no longer than their text
+-- there are at most as many lines as bytes
 short : (lines : List (List ℕ)) → length lines ≤ length (text_of lines)
 short [] = omega arith
 short (l ∷ ls) = omega (arith, short ls, length-append (with_line_feed l) (text_of ls), length-append l (LF ∷ []))
@@ -104,7 +104,7 @@ text-is : (c : Certificate) → cert_text c ≡ text_of (cert_lines c)
 unfolding cert_text
 text-is c = refl
 
--- no certificate goes on with a line that is refused
+-- no certificate continues with a rejected line
 bad-ends : (front : List (List ℕ)) (s : Stage) (line : List ℕ) → run Nothing front ≡ Some s → next s line ≡ None
     → Starts (front ++ line ∷ []) → ⊥
 bad-ends front s line runs none b =
@@ -132,7 +132,7 @@ bad-fails front rest s c is runs none some (l ∷ more) e f =
     bad-ends front s l runs (none l (text_of more) line parts)
     (record { cert = c; more = more; is_one = is; lines_are = regrouped })
 
--- lines with which a certificate starts, and that are in front
+-- leading lines with which a certificate starts
 begins : (front : List (List ℕ)) (rest : List ℕ) → Starts front → Begins (text_of front ++ rest) (length front)
 begins front rest b =
     let at : take (length front) (cert_lines b.cert) ≡ front =
@@ -141,7 +141,7 @@ begins front rest b =
     omega (arith, ap length b.lines_are, length-append front b.more) in
     (b.cert, b.is_one, few, (rest, ap (λ (ls : List (List ℕ)). text_of ls ++ rest) (sym at)))
 
--- a stage with which no line goes on, and that is not the whole, is at a bad line
+-- a stage that no line continues, before the end, is at a bad line
 pub reads-bad : (bytes rest : List ℕ) (n : ℕ) (s : Stage) → Reads bytes rest n s
     → ((line behind : List ℕ) → HasNoLineFeed line → rest ≡ line ++ LF ∷ behind → next s line ≡ None)
     → ((c : Certificate) → s ≡ Whole c → rest ≡ [] → ⊥)
@@ -180,7 +180,7 @@ reads-bad bytes rest n s r none some = (
         bad-ends r.front s l r.runs (none l (text_of more ++ behind) line (f ∙ text-then l more behind))
         (record { cert = c; more = more ++ drop n (cert_lines c); is_one = is; lines_are = regrouped })
 
--- a line that is refused is bad
+-- a rejected line is bad
 pub reads-refused : (bytes rest : List ℕ) (n : ℕ) (s : Stage) (line behind : List ℕ) → Reads bytes rest n s
     → HasNoLineFeed line → rest ≡ line ++ LF ∷ behind → next s line ≡ None → IsBadLine bytes n
 reads-refused bytes rest n s line behind r is e f =
@@ -188,7 +188,7 @@ reads-refused bytes rest n s line behind r is e f =
     (λ l b i g. let same = cut line l behind b is i (sym e ∙ g) in subst (λ (x : List ℕ). next s x ≡ None) same.0 f)
     (λ c w h. uncut [] line behind (All-nil (λ x. x ≢ LF)) (sym h ∙ e))
 
--- a line that is not ended is bad, where something stands there or more lines are wanted
+-- a line without an end is bad if it is not empty or more lines are expected
 pub reads-unended : (bytes rest : List ℕ) (n : ℕ) (s : Stage) → Reads bytes rest n s → HasNoLineFeed rest
     → ((c : Certificate) → s ≡ Whole c → rest ≡ [] → ⊥) → IsBadLine bytes n
 reads-unended bytes rest n s r is some = reads-bad bytes rest n s r (λ l b i g. absurd (uncut rest l b is g)) some
@@ -203,7 +203,7 @@ reads-whole bytes rest n c r none = (
       ∙ ap text_of (sym r.same) ∙ sym (text-is c),
 )
 
--- the line that a fault tells is bad
+-- the line that a fault names is bad
 pub told : (bytes : List ℕ) (k n : ℕ) → IsBadLine bytes k → BadLine k ≡ BadLine n → IsBadLine bytes n
 told bytes k n bad e = let same : k ≡ n = cc in subst (IsBadLine bytes) same bad
 
@@ -220,7 +220,7 @@ one-certificate c d ic id e =
     let both : Some (Whole c) ≡ Some (Whole d) = sym (cert-runs c ic) ∙ ap (run Nothing) (sym lines) ∙ cert-runs d id in
     cc (both)
 
--- what begins with some lines begins with fewer
+-- bytes that begin with some lines begin with fewer
 fewer : (lines : List (List ℕ)) (m j : ℕ) (rest : List ℕ) → m ≤ j → (more : List ℕ)
     × (text_of (take j lines) ++ rest ≡ text_of (take m lines) ++ more)
 fewer lines zero j rest le = (text_of (take j lines) ++ rest, refl)

@@ -1,4 +1,4 @@
--- A text has one split into lines, and the lines of a certificate are lines.
+-- A text has one split into lines, and the lines of a certificate contain no LF.
 use Rattle.std.proofs.Common.{◌≡◌, ◌≢◌, ℕ, ◌+◌, ◌%◌, ◌^◌, ◌<◌, ◌≤◌, true, leb, List, [], ◌∷◌, ◌++◌, length, get_or}
 use Rattle.std.proofs.Common.{Option, None, Some, refl, sym, ap, ◌∙◌, append_assoc, arith, inl, inr, ◌⊎◌, All}
 use Rattle.std.specs.Prelude.{codes, IfSome}
@@ -26,7 +26,7 @@ Apart b = b ≢ LF
 
 -- ---- one split
 
--- what stands before the first LF, and after it
+-- the bytes before the first LF, and those after it
 pub cut : (a b x y : List ℕ) → HasNoLineFeed a → HasNoLineFeed b → a ++ LF ∷ x ≡ b ++ LF ∷ y → (a ≡ b) × (x ≡ y)
 cut [] [] x y la lb e = (refl, cc)
 cut [] (c ∷ b) x y la lb e =
@@ -41,7 +41,7 @@ cut (c ∷ a) (d ∷ b) x y la lb e =
     let more = cut a b x y (All-tail Apart c a la) (All-tail Apart d b lb) tails in
     (cc (more.0), more.1)
 
--- a line has no LF
+-- a line contains no LF
 pub uncut : (rest a x : List ℕ) → HasNoLineFeed rest → rest ≡ a ++ LF ∷ x → ⊥
 uncut [] [] x l e = absurd cc
 uncut [] (c ∷ a) x l e = absurd cc
@@ -54,7 +54,7 @@ line-then l r = append_assoc l (LF ∷ []) r
 pub text-then : (l : List ℕ) (ls : List (List ℕ)) (r : List ℕ) → text_of (l ∷ ls) ++ r ≡ l ++ LF ∷ (text_of ls ++ r)
 text-then l ls r = append_assoc (with_line_feed l) (text_of ls) r ∙ line-then l (text_of ls ++ r)
 
--- the longer of two splits goes on from the shorter
+-- the longer of two splits continues the shorter one
 pub record GoesOn (front other : List (List ℕ)) (rest behind : List ℕ) : Type 0 where
   pub more : List (List ℕ)
   pub lines_are : other ≡ front ++ more
@@ -74,14 +74,14 @@ split-longer (l ∷ front) (m ∷ other) rest behind lf lo e le =
     (All-tail HasNoLineFeed m other lo) c.1 (omega arith) in
     record { more = r.more; lines_are = cc (c.0, r.lines_are); rest_is = r.rest_is }
 
--- no bytes are no lines
+-- no bytes have no lines
 pub no-lines : (ls : List (List ℕ)) (r : List ℕ) → [] ≡ text_of ls ++ r → ls ≡ []
 no-lines [] r e = refl
 no-lines (l ∷ ls) r e =
     let both : [] ≡ l ++ LF ∷ (text_of ls ++ r) = e ∙ text-then l ls r in
     absurd (uncut [] l (text_of ls ++ r) (All-nil Apart) both)
 
--- a whole text goes on from each front of it
+-- a whole text continues each of its prefixes
 pub split-whole : (front lines : List (List ℕ)) (rest : List ℕ) → All HasNoLineFeed front → All HasNoLineFeed lines
     → text_of front ++ rest ≡ text_of lines → GoesOn front lines rest []
 split-whole front lines rest lf ll e = go (cases_lt (length lines) (length front))
@@ -100,7 +100,7 @@ split-whole front lines rest lf ll e = go (cases_lt (length lines) (length front
 abbrev Plain : ℕ → Type 0
 Plain b = 32 ≤ b
 
--- no control byte is among them
+-- it contains no control byte
 abbrev pub ArePlain : List ℕ → Type 0
 ArePlain bytes = All Plain bytes
 
@@ -128,7 +128,7 @@ number-plain n low = decimal-plain n (omega arith)
 amount-plain : (n : ℕ) → IsAmount n → ArePlain (decimal n)
 amount-plain n few = decimal-plain n (omega arith)
 
--- pieces one after the other
+-- pieces, concatenated
 pieces-plain : {A : Type 0} (text : A → List ℕ) (Fits : A → Type 0) (is : (x : A) → Fits x → ArePlain (text x))
     (xs : List A) → All Fits xs → ArePlain (flat_map text xs)
 pieces-plain text Fits is [] fits = All-nil Plain
@@ -219,14 +219,14 @@ plain-lines c is =
     (conclusion-is (length c.members) c.conclusion is.conclusion)
     (All-cons ArePlain (codes "end") [] (plain-from (codes "end") refl) (All-nil ArePlain)))))
 
--- what is plain has no LF
+-- a text without control bytes contains no LF
 line-of : (line : List ℕ) → ArePlain line → HasNoLineFeed line
 line-of line plain = λ i d lt. λ (same : get_or line i d ≡ LF). omega (arith, plain i d lt, same)
 
 pub cert-lines : (c : Certificate) → IsCertificate c → All HasNoLineFeed (cert_lines c)
 cert-lines c is = λ i d lt. line-of (get_or (cert_lines c) i d) (plain-lines c is i d lt)
 
--- plain lines with their LFs have no CR
+-- lines without control bytes contain no CR
 no-returns : (lines : List (List ℕ)) → All ArePlain lines → All (λ b. b ≢ CR) (text_of lines)
 no-returns [] plain = All-nil (λ b. b ≢ CR)
 no-returns (l ∷ ls) plain =

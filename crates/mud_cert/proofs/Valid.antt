@@ -1,4 +1,4 @@
--- A certificate of which no doubt holds is valid, and a valid one has none.
+-- A certificate without doubts is valid, and a valid one has none.
 use Rattle.std.proofs.Common.{◌≡◌, ℕ, ◌<◌, [], length, None, arith}
 use Rattle.mud_cert.specs.declared.cert.Conclusion.{Conclusion}
 use Rattle.mud_cert.specs.declared.cert.Conclusion.TheVariants.{Route, Meet}

@@ -1,4 +1,4 @@
--- The doubts of a walk: what each test of it finds, both ways.
+-- The doubts of a walk: the results of its tests, in both directions.
 use Rattle.std.proofs.Common.{◌≡◌, ◌≢◌, ℕ, ◌+◌, zero, suc, List, [], ◌∷◌, take, All, Option, None, Some, true, false}
 use Rattle.std.proofs.Common.{◌⊎◌, inl, inr, refl, sym, ◌∙◌, ap, subst, arith}
 use Rattle.std.specs.Option.{option_map, option_map_or}
@@ -22,7 +22,7 @@ use Rattle.mud_cert.proofs.Ways.{source-passage, leaves-source}
 use Rattle.mud_cert.proofs.Doubtless.{walk-from, label-is, is-label}
 use Rattle.mud_cert.proofs.Members.{named, stated-steps, stated-end}
 
--- an exit of the ends leaves its room
+-- an exit with this source leaves its room
 leaves-to : (w : State) (room x : ℕ) → source_of w x ≡ Some room → leaves w room x ≡ true
 leaves-to w room x e = ap (is_number room) e ∙ eq-eqb room room refl
 
@@ -34,14 +34,14 @@ step-leads w x a e =
 source-of : (w : State) (x : ℕ) (a : Passage) → passage_of w x ≡ Some a → source_of w x ≡ Some a.source
 source-of w x a e = ap (option_map (λ (q : Passage). q.source)) e
 
--- after this many that are as they should be one fails; the test counts from any number on
+-- one fails after this many that pass; the test counts from any number on
 record Fails (IsSo : List ℕ → Type 0) (walk : List ℕ) (first place : ℕ) : Type 0 where
   count : ℕ
   number : place ≡ count + first
   so : IsSo (take count walk)
   fails : IsSo (take (suc count) walk) → ⊥
 
--- ---- an exit that doesn't leave where the walk stands
+-- ---- an exit that does not leave the room where the walk has arrived
 
 broken-some : (w : State) (from : ℕ) (walk : List ℕ) (first place : ℕ) → first_break w from first walk ≡ Some place
     → Fails (IsUnbroken w from) walk first place
@@ -97,7 +97,7 @@ broken-is w from (x ∷ xs) first (suc n) (a, e, source, so) fails =
     cond-true (leaves w from x) (first_break w (step_of w x).to (first + 1) xs) (Some first) goes
     ∙ ap (λ room. first_break w room (first + 1) xs) (step-leads w x a e) ∙ more ∙ ap Some count
 
--- ---- an exit that isn't open
+-- ---- an exit that is not open
 
 locked-some : (w : State) (p : ℕ) (walk : List ℕ) (first place : ℕ) → first_lock w p first walk ≡ Some place
     → Fails (All (λ x. passable w p x ≡ true)) walk first place
@@ -181,7 +181,7 @@ locked-to w p walk place (n, is, so, fails) =
 
 -- ---- the label of a walk
 
--- the walk is one of his, and has not the label of the room where it ends
+-- the walk is one of the member's, and does not have the label of the room where it ends
 abbrev pub IsMislabelled : State → Form → Account → Type 0
 IsMislabelled w form m =
     (to : ℕ) × (ss : List Step) × States w m to ss × (label_at m to ≢ Some (total (hop_of form) ss))

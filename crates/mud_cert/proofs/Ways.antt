@@ -1,4 +1,4 @@
--- The steps of a room are those of the exits that leave it and are open.
+-- The steps of a room are those of its open exits.
 use Rattle.std.proofs.Common.{◌≡◌, ℕ, Option, None, Some, true, false, ◌&&◌, refl, sym, ◌∙◌, ap, subst}
 use Rattle.std.specs.Prelude.{Contains}
 use Rattle.std.specs.Option.{option_map, option_map_or}
@@ -16,7 +16,7 @@ use Rattle.mud_cert.specs.inner.Ways.{step_of}
 use Rattle.mud_cert.specs.inner.Tests.{leaves, numbers}
 use Rattle.mud_cert.proofs.Finds.{below-contained}
 
--- the exit whose step it is
+-- the exit of a step
 pub record IsWay (w : State) (p room : ℕ) (s : Step) : Type 0 where
   pub numbered : Contains (numbers w) s.exit
   pub source : source_of w s.exit ≡ Some room
@@ -24,7 +24,7 @@ pub record IsWay (w : State) (p room : ℕ) (s : Step) : Type 0 where
   pub is_passable : passable w p s.exit ≡ true
   pub is : step_of w s.exit ≡ s
 
--- what has ends has a number of the world
+-- an object with ends has a number of the world
 pub passage-numbered : (w : State) → IsSound w → (x : ℕ) (a : Passage)
     → passage_of w x ≡ Some a → Contains (numbers w) x
 passage-numbered w sound x a e = go (record_at w x) refl
@@ -48,7 +48,7 @@ road-at w sound p room s c =
           r.0;
     }
 
--- what has a source has ends
+-- an exit with a source has ends
 pub source-passage : (w : State) (room x : ℕ) → source_of w x ≡ Some room
     → (a : Passage) × (passage_of w x ≡ Some a) × (a.source ≡ room)
 source-passage w room x e = go (passage_of w x) refl e
@@ -66,7 +66,7 @@ leaves-source w room x e = go (source_of w x) e
     go None e = absurd (false≢true e)
     go (Some n) e = ap Some (sym (eqb-true room n e))
 
--- each open exit makes a road
+-- each open exit gives a road
 pub road-of : (w : State) → IsSound w → (p room x : ℕ) → source_of w x ≡ Some room → passable w p x ≡ true
     → Contains (roads_of w p room) (step_of w x)
 road-of w sound p room x source o =
@@ -82,7 +82,7 @@ pub road-to : (w : State) → IsSound w → (p room x : ℕ) → leaves w room x
     → Contains (roads_of w p room) (step_of w x)
 road-to w sound p room x l o = road-of w sound p room x (leaves-source w room x l) o
 
--- what is open has a source
+-- an open exit has a source
 pub open-source : (w : State) (p x : ℕ) → passable w p x ≡ true → (room : ℕ) × (source_of w x ≡ Some room)
 open-source w p x e = go (passage_of w x) refl e
   where

@@ -1,4 +1,4 @@
--- A certificate as contracts see it, and the limits that every certificate keeps.
+-- The model of a certificate, and the limits that every certificate keeps.
 use Rattle.std.specs.Prelude.{◌≡◌, ℕ, ◌<◌, ◌≤◌, List, length, Option, IfSome, All, AllPairs}
 use Rattle.mud_roads.specs.declared.label.Label.{Label}
 pub use Rattle.mud_world.specs.Numbers.{IsNumber}
@@ -9,14 +9,14 @@ use Rattle.mud_cert.specs.declared.cert.Conclusion.{Conclusion}
 use Rattle.mud_cert.specs.declared.cert.Conclusion.TheVariants.{Route, Meet}
 use Rattle.mud_world.specs.declared.limits.TheConstants.{MOST_PARTY}
 
--- what is claimed of a member: who he is, where he stands, the labels of rooms, and his walk, if one is given
+-- the claims about a member: the player, its place, the labels of rooms, and its walk, if one is given
 pub record Account : Type 0 where
   pub player : ℕ
   pub from : ℕ
   pub labels : List (ℕ × Label)
   pub walk : Option (List ℕ)
 
--- a certificate: of which world it speaks, how its labels count, its members, and what it concludes
+-- a certificate: the version of its world, the form of its labels, its members, and its conclusion
 pub record Certificate : Type 0 where
   pub version : ℕ
   pub form : Form
@@ -27,7 +27,7 @@ pub record Certificate : Type 0 where
 abbrev pub IsAmount : ℕ → Type 0
 IsAmount n = n < AMOUNTS
 
--- labels rise by room, and every number is within the limits
+-- labels are sorted by room, and every number is within the limits
 pub record IsAccount (a : Account) : Type 0 where
   pub player : IsNumber a.player
   pub from : IsNumber a.from
@@ -40,7 +40,7 @@ abbrev pub CountsBy : Form → Account → Type 0
 CountsBy One a = All (λ e. e.1.exits ≡ 0) a.labels
 CountsBy Two a = Unit {0}
 
--- what an exit counts in a label
+-- the amount that an exit counts in a label
 abbrev pub hop_of : Form → ℕ
 hop_of One = 0
 hop_of Two = 1
@@ -51,7 +51,7 @@ IsConclusion count (Route to cost) = (count ≡ 1) × IsNumber to × IfSome cost
 IsConclusion count (Meet meeting) =
     (2 ≤ count) × (count ≤ MOST_PARTY) × IfSome meeting (λ m. IsNumber m.room × IsAmount m.cost)
 
--- what every certificate keeps
+-- the invariant of every certificate
 pub record IsCertificate (c : Certificate) : Type 0 where
   pub version : IsAmount c.version
   pub members : All IsAccount c.members

@@ -1,4 +1,4 @@
--- The doubts of a certificate: when each holds, and which of them is the first.
+-- The doubts of a certificate: the condition of each, and the first one.
 use Rattle.std.specs.Prelude.{◌≡◌, ◌≢◌, ℕ, ◌<◌, ◌≤◌, ◌⊎◌, List, [], ◌∷◌, length, take, slice_get, All, Contains}
 use Rattle.std.specs.Prelude.{Some, IsTrue, IsSomeAnd}
 use Rattle.mud_roads.specs.declared.label.Label.{Label}
@@ -16,7 +16,7 @@ use Rattle.mud_cert.specs.Certificate.{Account, Certificate, hop_of}
 use Rattle.mud_cert.specs.Lookup.{label_at}
 use Rattle.mud_cert.specs.Valid.{States, Agrees}
 
--- exit x is open to him, and leads from a labelled room to one that has no label or one that is too great
+-- exit x is open to the member, and leads from a labelled room to one without a label or with a label that is too great
 pub record Breaks (w : State) (form : Form) (m : Account) (x : ℕ) : Type 0 where
   pub room : ℕ
   pub label : Label
@@ -26,7 +26,7 @@ pub record Breaks (w : State) (form : Form) (m : Account) (x : ℕ) : Type 0 whe
   pub exit : step.exit ≡ x
   pub beyond : Reaches (label_at m) step.to (after (hop_of form) label step) → ⊥
 
--- each exit leaves the room where the last one led, whoever may pass
+-- each exit leaves the room where the last one led, whether or not it is open
 abbrev pub IsUnbroken : State → ℕ → List ℕ → Type 0
 IsUnbroken w from [] = Unit {0}
 IsUnbroken w from (x ∷ xs) =
@@ -59,7 +59,7 @@ HoldsAt w c at n d =
     ⊎ ((at ≡ length c.members) × (n ≡ 8) × (d ≡ doubts.Conclusion)
     × (Agrees w (λ m room l. label_at m room ≡ l) c.members c.conclusion → ⊥))
 
--- the doubt holds, and any that holds is of a later place, or of this one and no earlier test
+-- the doubt holds, and any other that holds comes at a later place, or at this place but not by an earlier test
 pub record IsFirstDoubt (w : State) (c : Certificate) (d : Doubt) : Type 0 where
   pub at : ℕ
   pub test : ℕ

@@ -13,7 +13,7 @@ use Rattle.mud_cert.specs.Certificate.{Account, Certificate}
 abbrev pub text_of : List (List ℕ) → List ℕ
 text_of lines = flat_map (λ line. line ++ LF ∷ []) lines
 
--- the first line says the form
+-- the first line names the form
 abbrev pub head_line : Form → List ℕ
 head_line One = codes "mud proof 1"
 head_line Two = codes "mud proof 2"
@@ -33,7 +33,7 @@ abbrev pub walk_line : Option (List ℕ) → List ℕ
 walk_line None = codes "walk none"
 walk_line (Some exits) = codes "walk" ++ exits_text exits
 
--- the three lines of a member: who he is and where he stands, his labels, and his walk
+-- the three lines of a member: the player and its place, its labels, and its walk
 abbrev pub member_lines : Form → Account → List (List ℕ)
 member_lines form a =
     (codes "member #" ++ decimal a.player ++ codes " from #" ++ decimal a.from)

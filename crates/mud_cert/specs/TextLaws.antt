@@ -1,4 +1,4 @@
--- What the texts of certificates and their bad lines keep.
+-- Laws about the texts of certificates and their bad lines.
 use Rattle.std.specs.Prelude.{◌≡◌, ◌≢◌, ℕ, List, [], ◌∷◌, ◌++◌, All}
 use Rattle.mud_key.specs.declared.codes.TheConstants.{LF, CR}
 use Rattle.mud_roads.specs.Laws.{IsOne}
@@ -6,11 +6,11 @@ use Rattle.mud_cert.specs.Certificate.{Certificate, IsCertificate}
 use Rattle.mud_cert.specs.Text.{cert_text}
 use Rattle.mud_cert.specs.Faults.{IsBadLine}
 
--- a text is that of only one certificate
+-- a text belongs to at most one certificate
 abbrev pub OneCertificate : Type 0
 OneCertificate = (c d : Certificate) → IsCertificate c → IsCertificate d → cert_text c ≡ cert_text d → c ≡ d
 
--- a text has one bad line at most
+-- a text has at most one bad line
 abbrev pub OneBadLine : Type 0
 OneBadLine = (bytes : List ℕ) → IsOne (IsBadLine bytes)
 
@@ -18,6 +18,6 @@ OneBadLine = (bytes : List ℕ) → IsOne (IsBadLine bytes)
 abbrev pub EndsWithLf : Type 0
 EndsWithLf = (c : Certificate) → (front : List ℕ) × (cert_text c ≡ front ++ LF ∷ [])
 
--- the text of a certificate has no CR
+-- the text of a certificate contains no CR
 abbrev pub HasNoReturn : Type 0
 HasNoReturn = (c : Certificate) → IsCertificate c → All (λ b. b ≢ CR) (cert_text c)

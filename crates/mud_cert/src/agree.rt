@@ -1,4 +1,4 @@
-//! Whether a conclusion agrees with the walks and the labels of the members.
+//! Checks that a conclusion agrees with the walks and the labels of the members.
 
 ghost use Rattle.std.specs.Prelude.{◌≡◌, is_none};
 ghost use Rattle.std.specs.List.{list_any, list_all};
@@ -13,7 +13,7 @@ use crate::{Conclusion, Member};
 use mud_roads::Label;
 use mud_world::World;
 
-// Whether a walk ends at the room and costs so much.
+// Returns whether a walk ends at the room and has exactly this cost.
 fn is_there_at(world: &World, room: u32, cost: u32, member: &Member) -> bool
     ensures { result ≡ is_there_at room cost (arrival_of world.now member.now) }
 {
@@ -23,7 +23,7 @@ fn is_there_at(world: &World, room: u32, cost: u32, member: &Member) -> bool
     }
 }
 
-// Whether a walk ends at the room and costs at most so much.
+// Returns whether a walk ends at the room and has at most this cost.
 fn is_there_within(world: &World, room: u32, cost: u32, member: &Member) -> bool
     ensures { result ≡ is_there_within room cost (arrival_of world.now member.now) }
 {
@@ -33,21 +33,21 @@ fn is_there_within(world: &World, room: u32, cost: u32, member: &Member) -> bool
     }
 }
 
-// Whether no walk is given.
+// Returns whether no walk is given.
 fn stays(member: &Member) -> bool
     ensures { result ≡ stays member.now }
 {
     member.walk().is_none()
 }
 
-// Whether no walk is given and the room isn't labelled.
+// Returns whether no walk is given and the room has no label.
 fn misses(member: &Member, room: u32) -> bool
     ensures { result ≡ misses room member.now }
 {
     stays(member) && label_at(member, room).is_none()
 }
 
-// The greatest cost of the members' labels of the room, where all have one.
+// Returns the greatest cost of the members' labels of the room, if all have one.
 fn greatest_cost(members: &[Member], room: u32) -> Option<u32>
     ensures { result ≡ greatest_cost members.now room }
 {
@@ -61,7 +61,7 @@ fn greatest_cost(members: &[Member], room: u32) -> Option<u32>
     Some(greatest)
 }
 
-// Whether the cost and the room don't come after the other ones.
+// Returns whether the cost and the room do not come after the other ones.
 fn is_no_worse(cost: u32, room: u32, other: u32, gathered: Option<u32>) -> bool
     ensures { result ≡ is_no_worse cost room other gathered }
 {
@@ -71,14 +71,14 @@ fn is_no_worse(cost: u32, room: u32, other: u32, gathered: Option<u32>) -> bool
     }
 }
 
-// Whether no room that is labelled for all comes before this one.
+// Returns whether no room that is labelled for all members comes before this one.
 fn is_best(members: &[Member], cost: u32, room: u32, labels: &[(u32, Label)]) -> bool
     ensures { result ≡ list_all (λ e. is_no_worse cost room e.0 (greatest_cost members.now e.0)) labels.now }
 {
     labels.iter().all(|entry| is_no_worse(cost, room, entry.0, greatest_cost(members, entry.0)))
 }
 
-// Whether none of the rooms is labelled for all.
+// Returns whether none of the rooms is labelled for all members.
 fn is_apart(members: &[Member], labels: &[(u32, Label)]) -> bool
     ensures { result ≡ list_all (λ e. is_none (greatest_cost members.now e.0)) labels.now }
 {
@@ -87,7 +87,7 @@ fn is_apart(members: &[Member], labels: &[(u32, Label)]) -> bool
         .all(|entry| greatest_cost(members, entry.0).is_none())
 }
 
-// The labels of the first member.
+// Returns the labels of the first member.
 fn first_labels(members: &[Member]) -> &[(u32, Label)]
     ensures { result.now ≡ first_labels members.now }
 {
@@ -97,21 +97,21 @@ fn first_labels(members: &[Member]) -> &[(u32, Label)]
     }
 }
 
-// Whether all have walks that end at the room and cost so much.
+// Returns whether all members have walks that end at the room with exactly this cost.
 fn are_all_at(world: &World, members: &[Member], room: u32, cost: u32) -> bool
     ensures { result ≡ list_all (λ m. is_there_at room cost (arrival_of world.now m)) members.now }
 {
     members.iter().all(|m| is_there_at(world, room, cost, m))
 }
 
-// Whether one has a walk that ends at the room and costs so much.
+// Returns whether some member has a walk that ends at the room with exactly this cost.
 fn is_one_at(world: &World, members: &[Member], room: u32, cost: u32) -> bool
     ensures { result ≡ list_any (λ m. is_there_at room cost (arrival_of world.now m)) members.now }
 {
     members.iter().any(|m| is_there_at(world, room, cost, m))
 }
 
-// Whether all have walks that end at the room and cost at most so much.
+// Returns whether all members have walks that end at the room with at most this cost.
 fn are_all_within(world: &World, members: &[Member], room: u32, cost: u32) -> bool
     ensures { result ≡ list_all (λ m. is_there_within room cost (arrival_of world.now m)) members.now }
 {
@@ -120,21 +120,21 @@ fn are_all_within(world: &World, members: &[Member], room: u32, cost: u32) -> bo
         .all(|m| is_there_within(world, room, cost, m))
 }
 
-// Whether nobody has a walk, and nobody a label of the room.
+// Returns whether no member has a walk, and none a label of the room.
 fn do_all_miss(members: &[Member], room: u32) -> bool
     ensures { result ≡ list_all (misses room) members.now }
 {
     members.iter().all(|m| misses(m, room))
 }
 
-// Whether nobody has a walk.
+// Returns whether no member has a walk.
 fn do_all_stay(members: &[Member]) -> bool
     ensures { result ≡ list_all stays members.now }
 {
     members.iter().all(|m| stays(m))
 }
 
-// Whether the conclusion agrees with the walks and the labels.
+// Returns whether the conclusion agrees with the walks and the labels.
 pub(crate) fn concludes(world: &World, members: &[Member], conclusion: Conclusion) -> bool
     ensures { result ≡ concludes world.now members.now conclusion }
 {

@@ -1,4 +1,4 @@
-//! Certificates: what the guide claims, in a form that can be checked without it.
+//! Certificates: the claims of the guide, in a form that can be checked without the guide.
 
 ghost use Rattle.std.specs.Prelude.{◌≡◌, option_copied, option_map};
 ghost use Rattle.mud_cert.specs.Certificate.{IsAccount, IsCertificate};
@@ -6,16 +6,16 @@ ghost use Rattle.mud_cert.specs.Certificate.{IsAccount, IsCertificate};
 use mud_roads::Label;
 use std::marker::Model;
 
-/// How the labels of a certificate count.
+/// The form of a certificate: how its labels count.
 #[derive(Clone, Copy, Debug, PartialEq, Eq)]
 pub enum Form {
-    /// Only costs; each label has 0 exits.
+    /// Costs only; each label has 0 exits.
     One,
-    /// Costs, and then exits.
+    /// Costs, then exits.
     Two,
 }
 
-/// The room where a party meets, and the greatest of the costs of its members.
+/// A meeting room, and the greatest of its members' costs.
 #[derive(Clone, Copy, Debug, PartialEq, Eq)]
 pub struct Meeting {
     /// The number of the room.
@@ -24,18 +24,17 @@ pub struct Meeting {
     pub cost: u32,
 }
 
-/// What a certificate concludes.
+/// The conclusion of a certificate.
 #[derive(Clone, Copy, Debug, PartialEq, Eq)]
 pub enum Conclusion {
-    /// The least cost of a walk to a room, or that no walk leads there.
+    /// The least cost of a walk to a room, or `None` if no walk leads there.
     Route { to: u32, cost: Option<u32> },
-    /// Where the party meets, or that there is no room where all come.
+    /// The meeting room of the party, or `None` if no room can be reached by all.
     Meet(Option<Meeting>),
 }
 
-/// What a certificate claims of one member of the party: where he stands, a label for each room that he reaches, and
-/// his walk, if one is given. Numbers of objects are 0 to 8,191, costs and counts of exits at most 999,999,999, and the
-/// labels rise by room.
+/// The claims about one member of the party: its place, a label for each room that it reaches, and its walk, if one is
+/// given. Object numbers are 0 to 8,191, costs and counts of exits at most 999,999,999, and labels are sorted by room.
 #[derive(Drop)]
 pub struct Member {
     pub(crate) player: u32,
@@ -65,9 +64,9 @@ impl Model for Member {
     }) };
 }
 
-/// A certificate of a route or a meeting in the world after `version` changes of a history (this
-/// project's profile; labels are the dual labels of the textbook on shortest paths). A route has
-/// one member, a meeting 2 to 8.
+/// A certificate for a route or a meeting, in the world after `version` changes of a history (this project's profile;
+/// labels are the dual variables of the textbook treatment of shortest paths). A route has one member, a meeting 2 to
+/// 8.
 #[derive(Drop)]
 pub struct Cert {
     pub(crate) version: u32,
@@ -97,8 +96,8 @@ impl Model for Cert {
 }
 
 impl Member {
-    /// The part of one member: the player, his place, the labels of rooms by rising number, and
-    /// his walk, exit by exit.
+    /// Returns the part of one member: the player, its place, the labels of rooms, sorted by number, and its walk, exit
+    /// by exit.
     pub fn new(player: u32, from: u32, labels: Vec<(u32, Label)>, walk: Option<Vec<u32>>) -> Member
         requires { IsAccount (record {
           player = player;
@@ -121,28 +120,28 @@ impl Member {
         }
     }
 
-    /// The number of the player.
+    /// Returns the number of the player.
     pub fn player(&self) -> u32
         ensures { result ≡ self.now.player }
     {
         self.player
     }
 
-    /// The room where he stands.
+    /// Returns the room where the player stands.
     pub fn from(&self) -> u32
         ensures { result ≡ self.now.from }
     {
         self.from
     }
 
-    /// Rooms with their labels, by rising number.
+    /// Returns the rooms with their labels, sorted by number.
     pub fn labels(&self) -> &[(u32, Label)]
         ensures { result.now ≡ self.now.labels }
     {
         self.labels.as_slice()
     }
 
-    /// The exits of his walk, if one is given.
+    /// Returns the exits of the walk, if one is given.
     pub fn walk(&self) -> Option<&[u32]>
         ensures { option_copied result ≡ self.now.walk }
     {
@@ -154,7 +153,7 @@ impl Member {
 }
 
 impl Cert {
-    /// A certificate of the world after so many changes.
+    /// Returns a certificate for the world after `version` changes.
     pub fn new(version: u32, form: Form, members: Vec<Member>, conclusion: Conclusion) -> Cert
         requires { IsCertificate (record {
           version = version;
@@ -172,28 +171,28 @@ impl Cert {
         }
     }
 
-    /// How many changes the world has that it speaks of, at most 999,999,999.
+    /// Returns the version of the world that it is about, at most 999,999,999.
     pub fn version(&self) -> u32
         ensures { result ≡ self.now.version }
     {
         self.version
     }
 
-    /// How its labels count.
+    /// Returns the form of its labels.
     pub fn form(&self) -> Form
         ensures { result ≡ self.now.form }
     {
         self.form
     }
 
-    /// The party, in its order; one member for a route, 2 to 8 for a meeting.
+    /// Returns the party, in order: one member for a route, 2 to 8 for a meeting.
     pub fn members(&self) -> &[Member]
         ensures { result.now ≡ self.now.members }
     {
         self.members.as_slice()
     }
 
-    /// What it concludes.
+    /// Returns the conclusion.
     pub fn conclusion(&self) -> Conclusion
         ensures { result ≡ self.now.conclusion }
     {

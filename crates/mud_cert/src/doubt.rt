@@ -1,40 +1,40 @@
-//! Why a certificate is not accepted.
+//! Doubts: the reasons why a certificate is not accepted.
 
 use std::alloc::AllocError;
 use thiserror::Error;
 
-/// Why a certificate is not accepted. The doubts of a member are tried in this order, member after member, and
-/// `Conclusion` last; the first that holds is given. Numbers of players and exits are those of the objects.
+/// The reason why a certificate is not accepted. The checker tests member after member, with the tests of a member in
+/// this order, and `Conclusion` last. The first doubt that holds is returned. Players and exits are named by their
+/// object numbers.
 #[derive(Clone, Copy, Debug, Error)]
 pub enum Doubt {
-    /// Memory ran out; nothing is said of the certificate.
+    /// An allocation failed. It says nothing about the certificate.
     #[error("out of memory")]
     OutOfMemory,
-    /// The member is no player of the world, or an earlier member is the same.
+    /// The member is not a player of the world, or repeats an earlier member.
     #[error("#{0} is no player, or a member already")]
     NoSuchPlayer(u32),
-    /// The player stands elsewhere.
+    /// The player is in another place.
     #[error("#{0} stands elsewhere")]
     WrongStart(u32),
-    /// The room where the player stands isn't labelled 0, or what is labelled is no room.
+    /// The player's room is not labelled 0, or an object that is not a room is labelled.
     #[error("the start of #{0} isn't labelled 0, or what is labelled is no room")]
     StartLabel(u32),
-    /// The exit is the lowest that is open to the player, leaves a labelled room, and leads to a
-    /// room that has no label, or one above that of the room it leaves and the exit together.
+    /// This exit is the lowest that is open to the player, leaves a labelled room, and leads to a room without a label
+    /// or with a label that is too great. A label is too great if it is above the label after the step.
     #[error("#{exit} breaks the labels of #{player}")]
     Arc { player: u32, exit: u32 },
-    /// The exit at this place of the walk, counted from 1, is the first that doesn't leave where
-    /// the walk stands.
+    /// The exit at this place of the walk, counted from 1, is the first that does not leave the room where the walk has
+    /// arrived.
     #[error("the walk of #{player} breaks at its exit {at}")]
     WalkBroken { player: u32, at: usize },
-    /// The exit at this place of the walk, counted from 1, is the first that isn't open to the
-    /// player.
+    /// The exit at this place of the walk, counted from 1, is the first that is not open to the player.
     #[error("the walk of #{player} is locked at its exit {at}")]
     WalkLocked { player: u32, at: usize },
-    /// The room where the walk ends isn't labelled with what the walk costs.
+    /// The label of the walk's last room differs from the walk's cost.
     #[error("the label at the walk's end of #{0} is another")]
     WalkCost(u32),
-    /// The conclusion doesn't agree with the walks and the labels.
+    /// The conclusion does not agree with the walks and the labels.
     #[error("the conclusion doesn't follow")]
     Conclusion,
 }

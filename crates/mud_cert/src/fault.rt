@@ -1,16 +1,16 @@
-//! Why there is no certificate.
+//! The faults of reading a certificate.
 
 use std::alloc::{AllocError, AllocFailed};
 use thiserror::Error;
 
-/// Why a text gave no certificate.
+/// The reason why a text gives no certificate.
 #[derive(Debug, Drop, Error)]
 pub enum CertFault {
-    /// Memory ran out.
+    /// An allocation failed.
     #[error("out of memory")]
     OutOfMemory,
-    /// The text is no certificate's. Lines count from 1: those before this one begin the text of
-    /// some certificate, and with this one they don't, or it is missing, or its LF is.
+    /// The text is not a certificate's. Lines are counted from 1. The lines before this one begin the text of some
+    /// certificate. With this one they do not, or the line or its LF is missing.
     #[error("bad line {0}")]
     BadLine(usize),
 }

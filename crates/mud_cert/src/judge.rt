@@ -1,4 +1,4 @@
-//! The test of a certificate, which trusts nobody.
+//! Checks a certificate, trusting nobody.
 
 ghost use Rattle.std.specs.Prelude.{◌≡◌, ◌≢◌, nat_eq, find, [], None, Some, option_map, IfOk, IfErr, IsOk};
 ghost use Rattle.std.specs.List.{list_any, list_all};
@@ -19,35 +19,35 @@ use mud_roads::Label;
 use mud_world::{Holding, World};
 use std::alloc::AllocError;
 
-// Whether an earlier member is this player.
+// Returns whether an earlier member is this player.
 fn is_among(earlier: &[Member], player: u32) -> bool
     ensures { result ≡ list_any (λ m. nat_eq m.player player) earlier.now }
 {
     earlier.iter().any(|m| m.player() == player)
 }
 
-// Whether the member is a player of the world, and no earlier member.
+// Returns whether the member is a player of the world, and not an earlier member.
 fn is_new(world: &World, earlier: &[Member], member: &Member) -> bool
     ensures { result ≡ is_new world.now earlier.now member.now }
 {
     world.is_player(member.player()) && !is_among(earlier, member.player())
 }
 
-// Whether the member stands where it is claimed.
+// Returns whether the member stands where the certificate claims.
 fn stands(world: &World, member: &Member) -> bool
     ensures { result ≡ stands world.now member.now }
 {
     world.is_in(member.player(), member.from())
 }
 
-// Whether each labelled number is a room.
+// Returns whether each labelled number is a room.
 fn are_rooms(world: &World, labels: &[(u32, Label)]) -> bool
     ensures { result ≡ list_all (λ e. is_room world.now e.0) labels.now }
 {
     labels.iter().all(|entry| world.is_room(entry.0))
 }
 
-// Whether the member's start is labelled 0, and each labelled number is a room.
+// Returns whether the member's start is labelled 0, and each labelled number is a room.
 fn is_started(world: &World, member: &Member) -> bool
     ensures { result ≡ is_started world.now member.now }
 {
@@ -57,8 +57,8 @@ fn is_started(world: &World, member: &Member) -> bool
     }
 }
 
-// Whether the exit is open to the member, leaves a labelled room, and leads to one that has no
-// label or one that is too great.
+// Returns whether the exit is open to the member, leaves a labelled room, and leads to a room without a label or with
+// one that is too great.
 fn breaks(world: &World, form: Form, holding: &Holding, member: &Member, exit: u32) -> bool
     requires { IsHolding world.now member.now.player holding.now }
     ensures { result ≡ breaks world.now form member.now exit }
@@ -79,8 +79,8 @@ fn breaks(world: &World, form: Form, holding: &Holding, member: &Member, exit: u
     }
 }
 
-// The lowest exit that breaks the labels. Each number of the world is tried, so no label is
-// looked at but those of the ends of exits.
+// Returns the lowest exit that breaks the labels. It tries each number of the world, so it looks only at the labels of
+// ends of exits.
 fn first_breach(world: &World, form: Form, holding: &Holding, member: &Member) -> Option<u32>
     requires { IsHolding world.now member.now.player holding.now }
     ensures { result ≡ find (breaks world.now form member.now) (numbers world.now) }
@@ -93,7 +93,7 @@ fn first_breach(world: &World, form: Form, holding: &Holding, member: &Member) -
     None
 }
 
-// Whether there is a label, of this cost and so many exits.
+// Returns whether there is a label with this cost and this number of exits.
 fn is_labelled(label: Option<Label>, cost: u128, exits: usize) -> bool
     ensures { result ≡ is_label label (record { cost = cost; exits = exits }) }
 {
@@ -103,7 +103,7 @@ fn is_labelled(label: Option<Label>, cost: u128, exits: usize) -> bool
     }
 }
 
-// The first doubt of the member's walk.
+// Returns the first doubt of the member's walk.
 fn walk_doubt(
     world: &World,
     form: Form,
@@ -133,7 +133,7 @@ fn walk_doubt(
     }
 }
 
-// The first doubt of the member's walk, if one is given.
+// Returns the first doubt of the member's walk, if one is given.
 fn given_doubt(world: &World, form: Form, holding: &Holding, member: &Member) -> Option<Doubt>
     requires { IsHolding world.now member.now.player holding.now }
     ensures { result ≡ given_doubt world.now form member.now member.now.walk }
@@ -144,7 +144,7 @@ fn given_doubt(world: &World, form: Form, holding: &Holding, member: &Member) ->
     }
 }
 
-// The first doubt of the member's labels and walk.
+// Returns the first doubt of the member's labels and walk.
 fn labels_doubt(world: &World, form: Form, holding: &Holding, member: &Member) -> Option<Doubt>
     requires { IsHolding world.now member.now.player holding.now }
     ensures { result
@@ -158,7 +158,7 @@ fn labels_doubt(world: &World, form: Form, holding: &Holding, member: &Member) -
     given_doubt(world, form, holding, member)
 }
 
-// The first doubt of a member who comes after these. Memory is wanted for what he carries.
+// Returns the first doubt of a member that follows these members. It allocates the member's holding.
 fn member_doubt(
     world: &World,
     form: Form,
@@ -181,7 +181,7 @@ fn member_doubt(
     Ok(labels_doubt(world, form, &holding, member))
 }
 
-// The first doubt of the members.
+// Returns the first doubt of the members.
 fn members_doubt(world: &World, form: Form, members: &[Member]) -> Result<Option<Doubt>, AllocError>
     ensures { IfOk result (λ doubt. doubt ≡ members_doubt world.now form [] members.now) }
 {
@@ -193,7 +193,7 @@ fn members_doubt(world: &World, form: Form, members: &[Member]) -> Result<Option
     Ok(None)
 }
 
-// The first doubt of the certificate.
+// Returns the first doubt of the certificate.
 fn first_doubt(world: &World, cert: &Cert) -> Result<Option<Doubt>, AllocError>
     ensures { IfOk result (λ doubt. doubt ≡ first_doubt world.now cert.now) }
 {
@@ -207,25 +207,26 @@ fn first_doubt(world: &World, cert: &Cert) -> Result<Option<Doubt>, AllocError>
     }
 }
 
-// Tells the prover that the world is sound and the certificate is one. It does nothing when it runs.
+// Tells the prover that the world is sound and that the certificate keeps its invariant. It does nothing at run time.
 fn know_both(world: &World, cert: &Cert)
     ensures world { IsSound world.now }
     ensures certificate { IsCertificate cert.now }
 {
-    // for the prover: `next_number` says that the world is sound
+    // for the prover: `next_number` shows that the world is sound
     let _known = world.next_number();
-    // for the prover: a field that is read makes the type's invariant known
+    // for the prover: reading a field makes the type's invariant known
     let _known = &cert.members;
 }
 
-/// Tests the certificate in this world: member by member, then the conclusion. The first doubt is
-/// the answer ([`Doubt`] tells their order). A certificate without a doubt is valid, and what it
-/// concludes is the least: its walks are walks of its members to the room, no walk costs less or,
-/// where exits count, as much with fewer of them; none leads where it says that none does, and no
-/// room suits the party better. Nothing is believed of who made it. At `OutOfMemory` nothing is
-/// said; memory is wanted for what each member carries, and for nothing else. The time is that of
-/// a look-up for each exit of the world and of the walks, with the keys that are asked, and for
-/// each label, member by member.
+/// Checks the certificate in this world: member by member, then the conclusion. It returns the first doubt ([`Doubt`]
+/// has their order).
+///
+/// A certificate without a doubt is valid, and its conclusion is optimal. Its walks lead the members to the room, and
+/// no walk costs less or, if exits count, as much with fewer of them. If it claims that no walk leads to a room, none
+/// does. No room is a better meeting room. None of this depends on who made the certificate.
+///
+/// `OutOfMemory` says nothing about the certificate; only the holding of each member is allocated. For each member the
+/// time is a look-up for each exit of the world, with its keys, for each exit of the walk, and for each label.
 pub fn check(world: &World, cert: &Cert) -> Result<(), Doubt>
     ensures valid { IsOk result → IsValid world.now cert.now }
     ensures refuses { IfErr result (λ doubt. doubt ≢ OutOfMemory → IsFirstDoubt world.now cert.now doubt) }

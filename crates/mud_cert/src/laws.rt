@@ -1,8 +1,8 @@
-//! Facts about definitions only: each contract is a law, and its function does nothing.
+//! Laws of the definitions. Each contract is a law, and its function does nothing.
 
 ghost use Rattle.mud_cert.specs.Laws.{NoDoubtIsValid, ValidOrDoubted, OneFirstDoubt, ValidIsOptimal};
 
-/// A certificate is valid exactly where no doubt of it holds.
+/// A certificate is valid exactly if none of the doubts holds.
 pub fn no_doubt_is_valid()
     ensures { NoDoubtIsValid }
 {}
@@ -12,12 +12,12 @@ pub fn valid_or_doubted()
     ensures { ValidOrDoubted }
 {}
 
-/// A certificate has one first doubt at most.
+/// A certificate has at most one first doubt.
 pub fn one_first_doubt()
     ensures { OneFirstDoubt }
 {}
 
-/// What a valid certificate concludes is optimal.
+/// The conclusion of a valid certificate is optimal.
 pub fn valid_is_optimal()
     ensures { ValidIsOptimal }
 {}

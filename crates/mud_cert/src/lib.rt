@@ -1,24 +1,24 @@
-//! Certificates of routes and meetings, and the test of them, which trusts nobody.
+//! Certificates of routes and meetings, and a checker for them that trusts nobody.
 //!
-//! | Call | Answer |
+//! | Call | Result |
 //! |---|---|
 //! | [`Cert::new`], [`Member::new`] | a certificate, within its limits |
-//! | [`Cert::write`], [`read`] | its one text, and the certificate of a text |
-//! | [`check`] | whether it is valid in a world, or the first doubt of it |
+//! | [`Cert::write`], [`read`] | its text, and the certificate of a text |
+//! | [`check`] | whether it is valid in a world, or its first doubt |
 //!
-//! The guide writes a certificate with each answer; anyone can test it against the world, without
-//! the guide. docs/CERTIFICATES.md tells the rules in plain words.
+//! The guide writes a certificate with each answer, and anybody can check it against the world without the guide.
+//! docs/CERTIFICATES.md has the rules in plain words.
 //!
 //! ```text
 //! match check(&world, &cert) {
-//!     Ok(()) => {} // what it concludes is the least
+//!     Ok(()) => {} // its conclusion is optimal
 //!     Err(doubt) => {} // the first doubt, or out of memory
 //! }
 //! ```
 //!
-//! Proved is that `check` accepts exactly the valid certificates, unless memory runs out, that the doubt is the first
-//! one, and that what a valid certificate concludes is optimal. The laws of the definitions are the contracts of
-//! [`laws`].
+//! Proved: unless memory runs out, `check` accepts exactly the valid certificates and returns the first doubt of any
+//! other one, and the conclusion of a valid certificate is optimal. The contracts of [`laws`] are the laws of the
+//! definitions.
 #![tactic(auto)]
 
 mod agree;

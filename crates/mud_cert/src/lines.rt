@@ -1,4 +1,4 @@
-//! What each kind of line says, read from the bytes between two LFs.
+//! Reads each kind of line, given the bytes between two LFs.
 
 ghost use Rattle.std.specs.Prelude.{◌≡◌, IfOk, length, option_map};
 ghost use Rattle.std.specs.Str.{bytes_eq};
@@ -11,21 +11,21 @@ use crate::numbers::{number_at, object_at};
 use mud_roads::Label;
 use std::alloc::{AllocError, Global};
 
-/// What stands after the literal text.
+/// Returns the bytes after the literal text.
 fn after<'a>(literal: &[u8], bytes: &'a [u8]) -> Option<&'a [u8]>
     ensures { option_map (λ x. x.now) result ≡ after literal.now bytes.now }
 {
     bytes.strip_prefix(literal)
 }
 
-/// Whether the bytes are the literal text.
+/// Returns whether the bytes are the literal text.
 pub fn says(bytes: &[u8], literal: &[u8]) -> bool
     ensures { result ≡ bytes_eq bytes.now literal.now }
 {
     bytes == literal
 }
 
-/// The number, where nothing stands after it.
+/// Returns the number if no bytes follow it.
 #[tactic(auto, unfolding(crate::specs::inner::Reader::whole))]
 fn whole(number: u32, rest: &[u8]) -> Option<u32>
     ensures { result ≡ whole (number, rest.now) }
@@ -36,7 +36,7 @@ fn whole(number: u32, rest: &[u8]) -> Option<u32>
     }
 }
 
-/// The form, of the first line.
+/// Returns the form, from the first line.
 #[tactic(auto, unfolding(crate::specs::inner::Reader::head_at))]
 pub fn head_of(line: &[u8]) -> Option<Form>
     ensures { result ≡ head_at line.now }
@@ -50,7 +50,7 @@ pub fn head_of(line: &[u8]) -> Option<Form>
     }
 }
 
-/// The version, of the second line.
+/// Returns the version, from the second line.
 #[tactic(auto, unfolding(crate::specs::inner::Reader::version_at))]
 pub fn version_of(line: &[u8]) -> Option<u32>
     ensures { result ≡ version_at line.now }
@@ -59,7 +59,7 @@ pub fn version_of(line: &[u8]) -> Option<u32>
     whole(version, rest)
 }
 
-/// A player and his place, of a member's first line.
+/// Returns a player and its place, from a member's first line.
 #[tactic(auto, unfolding(crate::specs::inner::Reader::member_at, crate::specs::inner::Reader::whole))]
 pub fn member_of(line: &[u8]) -> Option<(u32, u32)>
     ensures { result ≡ member_at line.now }
@@ -72,7 +72,7 @@ pub fn member_of(line: &[u8]) -> Option<(u32, u32)>
     }
 }
 
-/// The count of exits of a label, which form one leaves out, and the bytes after it.
+/// Returns the number of exits of a label, which form one leaves out, and the bytes after it.
 #[tactic(auto, unfolding(crate::specs::inner::Reader::exits_at))]
 fn exits_at(form: Form, bytes: &[u8]) -> Option<(u32, &[u8])>
     ensures { option_map (λ x. (x.0, x.1.now)) result ≡ exits_at form bytes.now }
@@ -83,7 +83,7 @@ fn exits_at(form: Form, bytes: &[u8]) -> Option<(u32, &[u8])>
     }
 }
 
-/// A room and its label, and the bytes after them.
+/// Returns a room and its label, and the bytes after them.
 #[tactic(auto, unfolding(crate::specs::inner::Reader::entry_at))]
 fn entry_at(form: Form, bytes: &[u8]) -> Option<((u32, Label), &[u8])>
     ensures { option_map (λ x. (x.0, x.1.now)) result ≡ entry_at form bytes.now }
@@ -94,7 +94,7 @@ fn entry_at(form: Form, bytes: &[u8]) -> Option<((u32, Label), &[u8])>
     Some(((room, Label { cost, exits }), rest))
 }
 
-/// An exit of a walk, and the bytes after it.
+/// Returns an exit of a walk, and the bytes after it.
 #[tactic(auto, unfolding(crate::specs::inner::Reader::exit_at))]
 fn exit_at(bytes: &[u8]) -> Option<(u32, &[u8])>
     ensures { option_map (λ x. (x.0, x.1.now)) result ≡ exit_at bytes.now }
@@ -102,7 +102,7 @@ fn exit_at(bytes: &[u8]) -> Option<(u32, &[u8])>
     object_at(after(b" #", bytes)?)
 }
 
-/// Whether each room is above the one before it.
+/// Returns whether the rooms are strictly increasing.
 fn rises(entries: &[(u32, Label)]) -> bool
     ensures { result ≡ rises None entries.now }
 {
@@ -118,7 +118,7 @@ fn rises(entries: &[(u32, Label)]) -> bool
     true
 }
 
-/// Rooms with their labels, to the end of the bytes.
+/// Returns the rooms with their labels, to the end of the bytes.
 fn entries_of(
     alloc: Global,
     form: Form,
@@ -138,7 +138,7 @@ fn entries_of(
     Ok(Some(entries))
 }
 
-/// Rising labels, of a member's second line.
+/// Returns the sorted labels, from a member's second line.
 #[tactic(auto, unfolding(crate::specs::inner::Reader::labels_at))]
 pub fn labels_of(
     alloc: Global,
@@ -162,7 +162,7 @@ pub fn labels_of(
     }
 }
 
-/// Exits, to the end of the bytes.
+/// Returns the exits, to the end of the bytes.
 fn exits_of(alloc: Global, bytes: &[u8]) -> Result<Option<Vec<u32>>, AllocError>
     ensures { IfOk result (λ o. option_map (λ v. v.items) o ≡ pieces_at exit_at (length bytes.now) bytes.now) }
 {
@@ -178,7 +178,7 @@ fn exits_of(alloc: Global, bytes: &[u8]) -> Result<Option<Vec<u32>>, AllocError>
     Ok(Some(exits))
 }
 
-/// The end of a route's line.
+/// Returns the end of a route's line.
 #[tactic(auto, unfolding(crate::specs::inner::Reader::cost_at))]
 fn cost_at(bytes: &[u8]) -> Option<u32>
     ensures { result ≡ cost_at bytes.now }
@@ -187,7 +187,7 @@ fn cost_at(bytes: &[u8]) -> Option<u32>
     whole(cost, rest)
 }
 
-/// The cost of a route to a room, or that there is none.
+/// Returns the cost of a route to a room, or that there is no way.
 #[tactic(auto, unfolding(crate::specs::inner::Reader::way_at))]
 fn way_at(to: u32, bytes: &[u8]) -> Option<Conclusion>
     ensures { result ≡ way_at to bytes.now }
@@ -202,7 +202,7 @@ fn way_at(to: u32, bytes: &[u8]) -> Option<Conclusion>
     })
 }
 
-/// Where a route leads, and at which cost.
+/// Returns the target and the cost of a route.
 #[tactic(auto, unfolding(crate::specs::inner::Reader::route_at))]
 fn route_of(line: &[u8]) -> Option<Conclusion>
     ensures { result ≡ route_at line.now }
@@ -211,7 +211,7 @@ fn route_of(line: &[u8]) -> Option<Conclusion>
     way_at(to, rest)
 }
 
-/// Where a party meets, and at which cost.
+/// Returns the room and the cost of a meeting.
 #[tactic(auto, unfolding(crate::specs::inner::Reader::meeting_at))]
 fn meeting_of(line: &[u8]) -> Option<Conclusion>
     ensures { result ≡ meeting_at line.now }
@@ -221,7 +221,7 @@ fn meeting_of(line: &[u8]) -> Option<Conclusion>
     Some(Conclusion::Meet(Some(Meeting { room, cost })))
 }
 
-/// A conclusion, of the last line but one.
+/// Returns the conclusion, from the last line but one.
 #[tactic(auto, unfolding(crate::specs::inner::Reader::conclusion_at))]
 pub fn conclusion_of(line: &[u8]) -> Option<Conclusion>
     ensures { result ≡ conclusion_at line.now }
@@ -235,7 +235,7 @@ pub fn conclusion_of(line: &[u8]) -> Option<Conclusion>
     }
 }
 
-/// The exits of a walk that has some.
+/// Returns the exits of a non-empty walk.
 #[tactic(auto, unfolding(crate::specs::inner::Reader::exits_of))]
 fn walk_behind(alloc: Global, bytes: &[u8]) -> Result<Option<Option<Vec<u32>>>, AllocError>
     ensures { IfOk result (λ o. option_map (λ w. option_map (λ v. v.items) w) o ≡ exits_of bytes.now) }
@@ -249,7 +249,7 @@ fn walk_behind(alloc: Global, bytes: &[u8]) -> Result<Option<Option<Vec<u32>>>, 
     }
 }
 
-/// A walk, if one is given, of a member's third line.
+/// Returns the walk, if one is given, from a member's third line.
 #[tactic(auto, unfolding(crate::specs::inner::Reader::walk_at))]
 pub fn walk_of(alloc: Global, line: &[u8]) -> Result<Option<Option<Vec<u32>>>, AllocError>
     ensures { IfOk result (λ o. option_map (λ w. option_map (λ v. v.items) w) o ≡ walk_at line.now) }

@@ -9,7 +9,7 @@ ghost use Rattle.mud_cert.specs.inner.Tests.{is_at_most};
 use crate::Member;
 use mud_roads::{Label, Step};
 
-// The label of the room, by halving.
+// Returns the label of the room, by binary search.
 fn label_in(labels: &[(u32, Label)], room: u32) -> Option<Label>
     requires { Rises labels.now }
     ensures { result ≡ label_in labels.now room }
@@ -20,14 +20,14 @@ fn label_in(labels: &[(u32, Label)], room: u32) -> Option<Label>
     }
 }
 
-// The member's label of the room.
+// Returns the member's label of the room.
 pub(crate) fn label_at(member: &Member, room: u32) -> Option<Label>
     ensures { result ≡ label_at member.now room }
 {
     label_in(&member.labels, room)
 }
 
-// Whether the label is at most the one that a step on from another gives.
+// Returns whether the label is at most the label after the step.
 pub(crate) fn is_after(label: Label, before: Label, hop: u32, step: Step) -> bool
     ensures { result ≡ is_at_most label (after hop before step) }
 {

@@ -1,18 +1,18 @@
-//! Numbers at the front of bytes.
+//! Reads leading numbers.
 
 ghost use Rattle.std.specs.Prelude.{◌≡◌, ◌<◌, option_map};
 ghost use Rattle.mud_cert.specs.inner.Reader.{is_digit, small, digits_on, number_at, object_at};
 
 use mud_key::limits::{AMOUNTS, LAST_NUMBER};
 
-/// Whether the byte is a digit.
+/// Returns whether the byte is a digit.
 fn is_digit(byte: u8) -> bool
     ensures { result ≡ is_digit byte }
 {
     b'0' <= byte && byte <= b'9'
 }
 
-/// The number and the rest, where it has at most nine digits.
+/// Returns the number and the rest, if it has at most nine digits.
 fn small(number: u64, rest: &[u8]) -> Option<(u32, &[u8])>
     ensures { option_map (λ x. (x.0, x.1.now)) result ≡ small (number, rest.now) }
 {
@@ -23,8 +23,7 @@ fn small(number: u64, rest: &[u8]) -> Option<(u32, &[u8])>
     }
 }
 
-/// The number that goes on with the digits at the front, where it has at most nine, and the bytes
-/// after them.
+/// Returns the number that the leading digits continue, if it has at most nine digits, and the bytes after them.
 fn digits_on(start: u8, bytes: &[u8]) -> Option<(u32, &[u8])>
     requires { start < 10 }
     ensures { option_map (λ x. (x.0, x.1.now)) result ≡ small (digits_on start bytes.now) }
@@ -42,8 +41,7 @@ fn digits_on(start: u8, bytes: &[u8]) -> Option<(u32, &[u8])>
     small(number, &bytes[bytes.len()..])
 }
 
-/// A number of at most nine digits, the first of which is 0 only in 0 itself, and the bytes after
-/// it.
+/// Returns a number of at most nine digits without leading zeros, and the bytes after it.
 #[tactic(auto, unfolding(crate::specs::inner::Reader::number_at))]
 pub fn number_at(bytes: &[u8]) -> Option<(u32, &[u8])>
     ensures { option_map (λ x. (x.0, x.1.now)) result ≡ number_at bytes.now }
@@ -62,7 +60,7 @@ pub fn number_at(bytes: &[u8]) -> Option<(u32, &[u8])>
     }
 }
 
-/// The number of an object, and the bytes after it.
+/// Returns the number of an object, and the bytes after it.
 #[tactic(auto, unfolding(crate::specs::inner::Reader::object_at))]
 pub fn object_at(bytes: &[u8]) -> Option<(u32, &[u8])>
     ensures { option_map (λ x. (x.0, x.1.now)) result ≡ object_at bytes.now }

@@ -1,4 +1,4 @@
-//! The certificate that a text is of.
+//! Reads the text of a certificate.
 
 ghost use Rattle.std.specs.Prelude.{◌≡◌, ℕ, ◌++◌, ◌∷◌, IfOk, IfErr, IfSome, IfNone};
 ghost use Rattle.mud_key.specs.declared.codes.TheConstants.{LF};
@@ -13,7 +13,7 @@ use crate::stage::Stage;
 use memchr::memchr;
 use std::alloc::Global;
 
-/// The first line, without its LF, and the bytes after it.
+/// Returns the first line, without its LF, and the bytes after it.
 fn first_line(bytes: &[u8]) -> Option<(&[u8], &[u8])>
     ensures found { IfSome result (λ s. HasNoLineFeed s.0.now × (bytes.now ≡ s.0.now ++ LF ∷ s.1.now)) }
     ensures none { IfNone result (HasNoLineFeed bytes.now) }
@@ -25,9 +25,8 @@ fn first_line(bytes: &[u8]) -> Option<(&[u8], &[u8])>
     Some((line, &ended[1..]))
 }
 
-/// The certificate that the bytes are the text of, as [`Cert::write`] writes it; each certificate
-/// has one text, and each text is one certificate's at most. Otherwise the line from which on they
-/// are no certificate's. It reads each byte once.
+/// Reads the text that [`Cert::write`] writes. Each certificate has one text, and each text belongs to at most one
+/// certificate. For other bytes the error is the number of the first bad line. It reads each byte once.
 pub fn read(alloc: Global, bytes: &[u8]) -> Result<Cert, CertFault>
     ensures found { IfOk result (λ c. IsCertificate c × (bytes.now ≡ cert_text c)) }
     ensures fault { IfErr result (λ fault. (n : ℕ) → fault ≡ CertFault.BadLine n → IsBadLine bytes.now n) }

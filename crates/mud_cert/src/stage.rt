@@ -1,4 +1,4 @@
-//! What the lines of a text say so far, and what one line more says.
+//! The meaning of the lines read so far, and the effect of one more line.
 
 ghost use Rattle.std.specs.Prelude.{◌≡◌, ◌<◌, IfOk};
 ghost use Rattle.mud_cert.specs.Certificate.{IsNumber, IsAccount};
@@ -12,7 +12,7 @@ use mud_world::limits::MOST_PARTY;
 use std::alloc::{AllocError, Global};
 use std::marker::Model;
 
-/// A certificate as far as its members go.
+/// The members of a certificate that were read so far.
 #[derive(Drop)]
 pub struct Party {
     form: Form,
@@ -28,26 +28,26 @@ impl Model for Party {
     ghost view = { λ p. record { form = p.form; version = p.version; members = p.members.items } };
 }
 
-/// What the lines so far say.
+/// The meaning of the lines read so far.
 #[derive(Drop)]
 pub enum Stage {
-    /// There is no line yet.
+    /// No line was read.
     Nothing,
     /// The first line.
     Headed(Form),
-    /// Two lines, and three for each member.
+    /// Two lines, and three for each member, were read.
     Open(Party),
-    /// Then a player and his place.
+    /// Then a player and its place.
     Placed(Party, u32, u32),
-    /// Then his labels, which stand in the member, without his walk.
+    /// Then the player's labels. The member has them, and no walk yet.
     Labelled(Party, Member),
-    /// All lines but the last.
+    /// All lines but the last were read.
     Concluded(Cert),
-    /// All lines.
+    /// All lines were read.
     Whole(Cert),
 }
 
-/// Whether a conclusion is for so many members.
+/// Returns whether a conclusion is possible for this many members.
 fn suits(count: usize, conclusion: Conclusion) -> bool
     ensures { result ≡ suits count conclusion }
 {
@@ -58,7 +58,7 @@ fn suits(count: usize, conclusion: Conclusion) -> bool
 }
 
 impl Party {
-    /// After the line of a conclusion.
+    /// Returns the stage after the line of a conclusion.
     #[tactic(auto, unfolding(crate::specs::inner::Stages::conclude))]
     fn conclude(self, line: &[u8]) -> Option<Stage>
         requires { IsOpening self }
@@ -72,7 +72,7 @@ impl Party {
         }
     }
 
-    /// After a member's first line, or a conclusion.
+    /// Returns the stage after a member's first line, or after a conclusion.
     #[tactic(auto, unfolding(crate::specs::inner::Stages::join))]
     fn join(self, line: &[u8]) -> Option<Stage>
         requires { IsOpening self }
@@ -90,7 +90,7 @@ impl Party {
         }
     }
 
-    /// After a member's second line.
+    /// Returns the stage after a member's second line.
     #[tactic(auto, unfolding(crate::specs::inner::Stages::next))]
     fn label(
         self,
@@ -111,7 +111,7 @@ impl Party {
         }
     }
 
-    /// After a member's third line.
+    /// Returns the stage after a member's third line.
     #[tactic(auto, unfolding(crate::specs::inner::Stages::next))]
     fn walk(self, alloc: Global, member: Member, line: &[u8]) -> Result<Option<Stage>, AllocError>
         requires { IsAccount member }
@@ -130,7 +130,7 @@ impl Party {
     }
 }
 
-/// After the first line.
+/// Returns the stage after the first line.
 #[tactic(auto, unfolding(crate::specs::inner::Stages::next))]
 fn head(line: &[u8]) -> Option<Stage>
     ensures { result ≡ next Stage.Nothing line.now }
@@ -139,7 +139,7 @@ fn head(line: &[u8]) -> Option<Stage>
     Some(Stage::Headed(form))
 }
 
-/// After the second line.
+/// Returns the stage after the second line.
 #[tactic(auto, unfolding(crate::specs::inner::Stages::next))]
 fn open(alloc: Global, form: Form, line: &[u8]) -> Option<Stage>
     ensures { result ≡ next (Stage.Headed form) line.now }
@@ -152,7 +152,7 @@ fn open(alloc: Global, form: Form, line: &[u8]) -> Option<Stage>
     }))
 }
 
-/// After the last line.
+/// Returns the stage after the last line.
 #[tactic(auto, unfolding(crate::specs::inner::Stages::next))]
 fn end(cert: Cert, line: &[u8]) -> Option<Stage>
     ensures { result ≡ next (Stage.Concluded cert) line.now }
@@ -165,7 +165,7 @@ fn end(cert: Cert, line: &[u8]) -> Option<Stage>
 }
 
 impl Stage {
-    /// What is said with one line more; nothing where no certificate goes on so.
+    /// Returns the stage after one more line, or nothing if no certificate continues this way.
     #[tactic(auto, unfolding(crate::specs::inner::Stages::next, crate::specs::inner::Stages::IsStage))]
     pub fn next(self, alloc: Global, line: &[u8]) -> Result<Option<Stage>, AllocError>
         requires { IsStage self }

@@ -1,4 +1,4 @@
-//! Walks that are given as numbers of exits.
+//! Walks that are given by exit numbers.
 
 ghost use Rattle.std.specs.Prelude.{◌≡◌, ℕ};
 ghost use Rattle.mud_roads.specs.Passable.{passable};
@@ -12,8 +12,8 @@ use crate::{Form, Member};
 use mud_roads::Step;
 use mud_world::{Holding, World};
 
-/// Where a walk ends, what it costs and how many exits count. The sums are wider than the numbers
-/// of a label, so that no walk that fits memory makes them wrap.
+/// The end of a walk, its cost, and the number of exits that count. The sums are wider than the numbers of a label, so
+/// no walk that fits in memory makes them overflow.
 #[derive(Clone, Copy, Drop)]
 pub(crate) struct Progress {
     pub(crate) end: u32,
@@ -21,7 +21,7 @@ pub(crate) struct Progress {
     pub(crate) exits: usize,
 }
 
-// What an exit counts in a label.
+// Returns what an exit counts in a label.
 pub(crate) fn hop_of(form: Form) -> u32
     ensures { result ≡ hop_of form }
 {
@@ -31,7 +31,7 @@ pub(crate) fn hop_of(form: Form) -> u32
     }
 }
 
-// Whether the number is an exit's that leaves the room.
+// Returns whether the number is an exit that leaves the room.
 pub(crate) fn leaves(world: &World, room: u32, exit: u32) -> bool
     ensures { result ≡ leaves world.now room exit }
 {
@@ -41,7 +41,7 @@ pub(crate) fn leaves(world: &World, room: u32, exit: u32) -> bool
     }
 }
 
-// The step that an exit makes; nothing is meant where the number is no exit's.
+// Returns the step of an exit. The result is meaningless if the number is not an exit.
 pub(crate) fn step_of(world: &World, exit: u32) -> Step
     ensures { result ≡ step_of world.now exit }
 {
@@ -59,7 +59,7 @@ pub(crate) fn step_of(world: &World, exit: u32) -> Step
     }
 }
 
-// The place, counted from 1, of the first exit that doesn't leave where the walk stands.
+// Returns the place, counted from 1, of the first exit that does not leave the room where the walk has arrived.
 pub(crate) fn first_break(world: &World, from: u32, walk: &[u32]) -> Option<usize>
     ensures { result ≡ first_break world.now from 1 walk.now }
 {
@@ -73,8 +73,8 @@ pub(crate) fn first_break(world: &World, from: u32, walk: &[u32]) -> Option<usiz
     None
 }
 
-// Whether the number is an exit's that is open to the one whose holding it is: the exit and the
-// room that it leads to are unlocked for him.
+// Returns whether the number is an exit that is open to the holder: the exit and its destination are unlocked for the
+// holder.
 pub(crate) fn passes(world: &World, holding: &Holding, exit: u32) -> bool
     ensures { (p : ℕ) → IsHolding world.now p holding.now → result ≡ passable world.now p exit }
 {
@@ -86,7 +86,7 @@ pub(crate) fn passes(world: &World, holding: &Holding, exit: u32) -> bool
     }
 }
 
-// The place, counted from 1, of the first exit that isn't open to the one whose holding it is.
+// Returns the place, counted from 1, of the first exit that is not open to the holder.
 pub(crate) fn first_lock(world: &World, holding: &Holding, walk: &[u32]) -> Option<usize>
     ensures { (p : ℕ) → IsHolding world.now p holding.now → result ≡ first_lock world.now p 1 walk.now }
 {
@@ -98,7 +98,7 @@ pub(crate) fn first_lock(world: &World, holding: &Holding, walk: &[u32]) -> Opti
     None
 }
 
-// Where the walk ends, and its label.
+// Returns the end of the walk, and its label.
 pub(crate) fn progress_of(world: &World, form: Form, from: u32, walk: &[u32]) -> Progress
     ensures end { result.end ≡ end_of from (steps_of world.now walk.now) }
     ensures cost { result.cost ≡ (total (hop_of form) (steps_of world.now walk.now)).cost }
@@ -121,7 +121,7 @@ pub(crate) fn progress_of(world: &World, form: Form, from: u32, walk: &[u32]) ->
     all
 }
 
-// Where the member's walk ends, if one is given, and what it costs.
+// Returns the end and the cost of the member's walk, if one is given.
 pub(crate) fn arrival_of(world: &World, member: &Member) -> Option<(u32, u128)>
     ensures { result ≡ arrival_of world.now member.now }
 {

@@ -1,4 +1,4 @@
-//! The text of a certificate, written.
+//! Writes the text of a certificate.
 
 ghost use Rattle.std.specs.Prelude.{◌≡◌, ◌++◌, OnOk, OnErr, option_map, string_bytes};
 ghost use Rattle.std.specs.List.{flat_map};
@@ -123,7 +123,7 @@ fn push_cert(out: &mut String, cert: &Cert) -> Result<(), AllocError>
 }
 
 impl Cert {
-    /// Appends the certificate's text. Each line ends with LF, and numbers are decimal, without needless zeros:
+    /// Appends the certificate's text. Each line ends with LF, and numbers are decimal, without leading zeros:
     ///
     /// ```text
     /// mud proof 1             or 2, the form
@@ -135,7 +135,7 @@ impl Cert {
     /// end
     /// ```
     ///
-    /// It fails where memory runs out, and the text is then as it was.
+    /// The only error is out of memory, and it leaves the text unchanged.
     pub fn write(&self, alloc: Global, out: &mut String) -> Result<(), AllocError>
         ensures done { OnOk result (string_bytes out.new ≡ string_bytes out.old ++ cert_text self.now) }
         ensures refused { OnErr result (string_bytes out.new ≡ string_bytes out.old) }

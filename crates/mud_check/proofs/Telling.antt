@@ -1,11 +1,11 @@
--- What is written of a line where a write fails.
+-- The output if a write fails.
 use Rattle.std.proofs.Common.{ℕ, List, [], ◌∷◌, ◌++◌, take, drop, Option, sym, ◌∙◌, ap, append_assoc, take-append-drop}
 use mathlib.Core.List.{IsPrefix}
 use Rattle.std.specs.Io.KnownBytes.{Appends}
 use Rattle.std.proofs.KnownBytes.{Appends-trans}
 use Rattle.mud_key.specs.declared.codes.TheConstants.{LF}
 
--- a front of the line was written
+-- a prefix of the line was written
 abbrev pub IsCut : Option (List ℕ) → Option (List ℕ) → List ℕ → Type 0
 IsCut held now_held text = (front : List ℕ) × IsPrefix front (text ++ LF ∷ []) × Appends held now_held front
 
@@ -17,7 +17,7 @@ cut-text held now_held text n appends =
     sym (append_assoc (take n text) (drop n text) (LF ∷ [])) ∙ ap (λ t. t ++ LF ∷ []) (take-append-drop n text) in
     (take n text, (drop n text ++ LF ∷ [], whole), appends)
 
--- the text was written, and its end was not
+-- the text was written, and its line end was not
 pub cut-end : (held mid now_held : Option (List ℕ)) (text : List ℕ) (n : ℕ) → Appends held mid text
     → Appends mid now_held (take n (LF ∷ [])) → IsCut held now_held text
 cut-end held mid now_held text n first second =

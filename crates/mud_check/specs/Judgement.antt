@@ -1,4 +1,4 @@
--- What is judged of standard input, and what is said of it.
+-- The verdict on standard input, and its output.
 use Rattle.std.specs.Prelude.{◌≡◌, ◌⊎◌, ℕ, Bool, true, false, List, [], ◌∷◌, ◌++◌, codes, Option}
 use mathlib.Core.List.{IsPrefix}
 use Rattle.std.specs.Io.KnownBytes.{Appends}
@@ -9,24 +9,24 @@ use Rattle.mud_check.specs.declared.judge.Unread.TheVariants.{OutOfMemory, File}
 use Rattle.mud_checker.specs.Verdict.{IsVerdict}
 use Rattle.mud_check.specs.Input.{IsSplit}
 
--- the outcome is the verdict on the two texts that the bytes hold
+-- the outcome is the verdict on the two texts in the bytes
 pub record IsJudged (bytes : List ℕ) (outcome : Outcome) : Type 0 where
   pub history : List ℕ
   pub proof : List ℕ
   pub split : IsSplit bytes history proof
   pub verdict : IsVerdict history proof outcome
 
--- why standard input has no verdict: its reader failed, or else memory ran out
+-- the reason why standard input has no verdict: its reader failed, or else memory ran out
 abbrev pub IsInputFault : Bool → Unread → Type 0
 IsInputFault has_failed OutOfMemory = has_failed ≡ false
 IsInputFault has_failed (File name) = (has_failed ≡ true) × (name.now ≡ codes "-")
 
--- why two files have no verdict: one of them can't be read, or memory ran out
+-- the reason why two files have no verdict: one of them can't be read, or memory ran out
 abbrev pub IsFileFault : List ℕ → List ℕ → Unread → Type 0
 IsFileFault history proof OutOfMemory = Unit {0}
 IsFileFault history proof (File name) = (name.now ≡ history) ⊎ (name.now ≡ proof)
 
--- the line was written and the status is its own; or the writer failed, which left a front of it, and the status is 2
+-- the line was written and the status is its own; or the writer failed after a prefix of it, and the status is 2
 abbrev pub Says : Option (List ℕ) → Option (List ℕ) → List ℕ → ℕ → Bool → ℕ → Type 0
 Says held now_held text code has_failed status =
     ((status ≡ code) × Appends held now_held (text ++ LF ∷ []))

@@ -1,4 +1,4 @@
-//! The two texts of standard input.
+//! Splits standard input into two texts.
 
 ghost use Rattle.std.specs.Prelude.{◌≡◌};
 ghost use Rattle.mud_check.specs.Input.{begins_end};
@@ -6,15 +6,15 @@ ghost use Rattle.mud_check.specs.Input.{IsSplit};
 
 use memchr::memchr;
 
-// Whether the line begins as the last line of a history does.
+// Returns whether the line begins like the last line of a history.
 fn begins_end(line: &[u8]) -> bool
     ensures { result ≡ begins_end line.now }
 {
     line.starts_with(b"end ")
 }
 
-/// The history's text and the proof's, which stand one after the other: the history's goes up to and with the first
-/// line that begins with `end `, whether or not LF ends it, and is all of the bytes where there is no such line.
+/// Splits the bytes into the history's text and the proof's text. The history's text ends with the first line that
+/// begins with `end `, with or without its LF. Without such a line it is all of the bytes.
 pub fn split(bytes: &[u8]) -> (&[u8], &[u8])
     ensures { IsSplit bytes.now result.0.now result.1.now }
 {

@@ -1,4 +1,4 @@
-//! Two texts, judged.
+//! Checks two texts.
 
 ghost use Rattle.std.specs.Prelude.{◌≡◌, ◌≢◌, false, IfErr, IfOk, IfSome, OnOk};
 ghost use Rattle.std.specs.Io.KnownBytes.{IsAtEnd};
@@ -14,18 +14,18 @@ use std::io::{self, ErrorKind, Read};
 use std::rt::Files;
 use thiserror::Error;
 
-/// Why there is no verdict.
+/// The reason why there is no verdict.
 #[derive(Clone, Copy, Debug, Error)]
 pub enum Unread<'a> {
-    /// Memory ran out.
+    /// An allocation failed.
     #[error("unreadable: out of memory")]
     OutOfMemory,
-    /// The file of this name can't be read; `-` is standard input.
+    /// The file with this name can't be read; `-` is standard input.
     #[error("unreadable: file {0}")]
     File(&'a str),
 }
 
-// Why the file of this name was not read.
+// Returns the reason why the file with this name was not read.
 fn reason_of<'a>(name: &'a str, error: &io::Error) -> Unread<'a>
     ensures memory { error_kind error.now ≡ ErrorKind.OutOfMemory → result ≡ Unread.OutOfMemory }
     ensures file { error_kind error.now ≢ ErrorKind.OutOfMemory → result ≡ Unread.File name.entry }
@@ -36,7 +36,7 @@ fn reason_of<'a>(name: &'a str, error: &io::Error) -> Unread<'a>
     }
 }
 
-// The bytes of the file of this name.
+// Returns the bytes of the file with this name.
 fn file<'a, R: Files + AllocGlobal>(rt: &R, name: &'a str) -> Result<Vec<u8>, Unread<'a>>
     ensures { IfErr result (IsFileFault name.now name.now) }
 {
@@ -46,7 +46,7 @@ fn file<'a, R: Files + AllocGlobal>(rt: &R, name: &'a str) -> Result<Vec<u8>, Un
     }
 }
 
-/// Reads the two files, the history first, and judges their texts. The fault names the file that can't be read.
+/// Reads the two files, the history first, and checks their texts. The fault names the file that can't be read.
 pub fn judge_files<'a, R: Files + AllocGlobal>(
     rt: &R,
     history: &'a str,
@@ -62,7 +62,7 @@ pub fn judge_files<'a, R: Files + AllocGlobal>(
     }
 }
 
-// All that the source has left.
+// Returns the rest of the source.
 fn input<R: Read>(alloc: Global, source: &mut Source<R>) -> Result<Vec<u8>, Unread<'static>>
     requires no_end { source.old.at_end ≡ false }
     ensures bytes { IfOk result (λ input. IfSome source.old.left (λ bytes. input.items ≡ bytes)) }
@@ -77,8 +77,8 @@ fn input<R: Read>(alloc: Global, source: &mut Source<R>) -> Result<Vec<u8>, Unre
     }
 }
 
-/// Reads a history's text and a proof's, one after the other, to the source's end, and judges
-/// them. The file `-` is the answer where the source failed, and nowhere else.
+/// Reads a history's text and a proof's text, one after the other, to the source's end, and checks them. The fault
+/// names the file `-` exactly if the source failed.
 pub fn judge_input<R: Read>(
     alloc: Global,
     source: &mut Source<R>,

@@ -1,9 +1,8 @@
-//! `mud_check`: tries a certificate against a history, with nothing of the server that wrote them.
+//! `mud_check`: checks a certificate against a history, without the server that wrote them.
 //!
-//! `mud_check HISTORY PROOF` reads the two files; without words standard input holds the history's
-//! text and then the proof's. One line goes to standard output, and the status says whether the
-//! certificate is accepted (0), refused (1), or a text can't be read (2). docs/CHECKER.md has the
-//! lines.
+//! `mud_check HISTORY PROOF` reads the two files. Without arguments standard input holds the history's text and then
+//! the proof's text. It prints one line to standard output. The exit status says whether the certificate is accepted
+//! (0), refused (1), or a text can't be read (2). docs/CHECKER.md has the lines.
 #![tactic(auto)]
 
 mod input;
@@ -25,7 +24,7 @@ fn main(rt: HostRuntime) -> ExitCode {
     }
 }
 
-// Does what the words ask for.
+// Runs the task of the words.
 fn run(rt: &HostRuntime, words: &[String]) -> ExitCode {
     match sources_of(rt.alloc(), words) {
         Ok(Sources::Files { history, proof }) => print_outcome(rt, judge_files(rt, history, proof)),
@@ -37,8 +36,8 @@ fn run(rt: &HostRuntime, words: &[String]) -> ExitCode {
     }
 }
 
-// Says why the words ask for nothing, or what they ask to be told, and answers the status, which is 2 where what was
-// asked for can't be written.
+// Prints why the words name no task, or the help or version that they ask for. Returns the exit status, which is 2 if
+// the output can't be written.
 fn tell_fault(rt: &HostRuntime, fault: CommandFault) -> ExitCode {
     match fault {
         CommandFault::OutOfMemory => print_outcome(rt, Err(Unread::OutOfMemory)),
@@ -50,7 +49,7 @@ fn tell_fault(rt: &HostRuntime, fault: CommandFault) -> ExitCode {
     }
 }
 
-// Prints the line, and answers the status.
+// Prints the line, and returns the exit status.
 fn print_outcome(rt: &HostRuntime, judged: Result<Outcome, Unread<'_>>) -> ExitCode {
     let mut writer = io::writer(rt);
     ExitCode::from(match judged {

@@ -1,4 +1,4 @@
--- Of two texts one thing at most is found.
+-- Two texts have at most one finding.
 use Rattle.std.proofs.Common.{◌≡◌, ℕ, ◌<◌, ◌≤◌, List, length, take, inl, inr, refl, sym}
 use Rattle.std.proofs.Common.{◌∙◌, ap, subst, arith}
 use Rattle.mud_world.specs.State.{State}
@@ -30,7 +30,7 @@ pub record TextLaws : Type 0 where
   pub one_certificate : OneCertificate
   pub one_bad_line : OneBadLine
 
--- what is unfit is no history
+-- an unfit text is not a history
 not-unfit : TextLaws → (text : List ℕ) (fault : ChronFault) (entries : List Entry)
     → IsUnfit text fault → IsHistory text entries → ⊥
 not-unfit laws text fault entries (inl has) is = laws.no_fault text fault entries has is.spells
@@ -56,7 +56,7 @@ record AreSame (entries others : List Entry) (c d : Certificate) : Type 0 where
   pub entries_same : entries ≡ others
   pub cert_same : c ≡ d
 
--- a version above the entries is not among them
+-- a version above the number of entries is not within it
 not-above : (entries others : List Entry) (c d : Certificate) (version : ℕ) → AreSame entries others c d
     → version ≡ c.version → length entries < version → d.version ≤ length others → ⊥
 not-above entries others c d version same is above reached =
@@ -68,7 +68,7 @@ not-above entries others c d version same is above reached =
 at-sound : (entries : List Entry) (version : ℕ) → IsSound (world_at entries version)
 at-sound entries version = worlds_law (changes_of (take version entries))
 
--- what is so of a certificate in its world is so of the same one in the same world
+-- a fact about a certificate in its world holds for an equal one in an equal world
 moved : (entries others : List Entry) (c d : Certificate)
     (P : State → Certificate → Type 0) → AreSame entries others c d
     → P (world_at others d.version) d → P (world_at entries c.version) c
@@ -76,7 +76,7 @@ moved entries others c d P same p =
     subst (λ (es : List Entry). P (world_at es c.version) c) (sym same.entries_same)
     (subst (λ (x : Certificate). P (world_at others x.version) x) (sym same.cert_same) p)
 
--- of a certificate after these entries one thing is found
+-- a certificate has one finding, given these entries
 one-tried : (entries others : List Entry) (c d : Certificate) (finding other : Finding)
     → AreSame entries others c d → IsCertificate c
     → IsTried entries c finding → IsTried others d other → finding ≡ other
@@ -117,13 +117,13 @@ one-tried entries others c d (Doubted e) (BadProof n) same is a b = absurd b
 one-tried entries others c d Accepted (BadHistory f) same is a b = absurd b
 one-tried entries others c d Accepted (BadProof n) same is a b = absurd b
 
--- what is read after a history: a bad line, or a certificate of which this is found
+-- the proof after a history: a bad line, or a certificate with this finding
 data Reading (entries : List Entry) (proof : List ℕ) (finding : Finding) : Type 0 where
   Bad : (n : ℕ) → IsBadLine proof n → finding ≡ BadProof n → Reading entries proof finding
   Read : (c : Certificate) → IsCertificate c → proof ≡ cert_text c → IsTried entries c finding
       → Reading entries proof finding
 
--- what is found of two texts: an unfit history, or a history and what is read after it
+-- the finding for two texts: an unfit history, or a history and the proof after it
 data Sorted (history proof : List ℕ) (finding : Finding) : Type 0 where
   Unfit : (f : ChronFault) → IsUnfit (without_returns history) f → finding ≡ BadHistory f → Sorted history proof finding
   Fit : (entries : List Entry) → IsHistory (without_returns history) entries

@@ -1,4 +1,4 @@
--- Texts that are appended one after the other.
+-- Texts appended one after another.
 use Rattle.std.proofs.Common.{◌≡◌, ℕ, List, ◌++◌, Result, Ok, Err, OnOk, ◌∙◌, ap, append_assoc}
 
 -- two texts were appended

@@ -1,4 +1,4 @@
--- Where no CR is, none is dropped.
+-- Without a CR, none is dropped.
 use Rattle.std.proofs.Common.{◌≢◌, ℕ, Bool, ◌&&◌, cond, List, [], ◌∷◌, refl, ap, ◌∙◌}
 use Rattle.std.specs.Prelude.{nat_eq}
 use Rattle.std.specs.List.{starts_with}

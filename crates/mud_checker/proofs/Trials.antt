@@ -1,4 +1,4 @@
--- From what is found of a certificate to what is found of two texts.
+-- From the finding for a certificate to the finding for two texts.
 use Rattle.std.proofs.Common.{◌≡◌, ◌≢◌, ℕ, zero, suc, List, [], ◌∷◌, take, refl, sym, subst}
 use Rattle.mud_world.specs.State.{State}
 use Rattle.mud_world.specs.Opening.{opening_state}
@@ -10,19 +10,19 @@ use Rattle.mud_chron.specs.Entry.{Entry}
 use Rattle.mud_chron.specs.Replay.{changes_of, AreLegal, AreLegalFrom, HasIllegal}
 use Rattle.mud_checker.proofs.Legality.{none-illegal}
 
--- nothing is the front of nothing
+-- a prefix of the empty list is empty
 take-nil : (n : ℕ) → take {A = Entry} n [] ≡ []
 take-nil zero = refl
 take-nil (suc n) = refl
 
--- the first changes are legal where all are
+-- the first changes are legal if all are
 legal-first : (w : State) (entries : List Entry) (n : ℕ) → AreLegalFrom w (changes_of entries)
     → AreLegalFrom w (changes_of (take n entries))
 legal-first w [] n legal = subst (λ (es : List Entry). AreLegalFrom w (changes_of es)) (sym (take-nil n)) tt
 legal-first w (e ∷ entries) zero legal = tt
 legal-first w (e ∷ entries) (suc n) legal = (legal.0, legal-first (after w e.change) entries n legal.1)
 
--- a replay of the first changes doesn't fail but for memory
+-- a replay of the first changes fails only for memory
 pub no-fault : (entries : List Entry) (n : ℕ) (fault : ChronFault) → AreLegal (changes_of entries)
     → HasIllegal (take n entries) fault → fault ≢ OutOfMemory → ⊥
 no-fault entries n OutOfMemory legal has other = other refl

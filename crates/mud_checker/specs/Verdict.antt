@@ -12,7 +12,7 @@ use Rattle.mud_checker.specs.declared.finding.Status.TheVariants.{Accepted, Refu
 use Rattle.mud_checker.specs.declared.outcome.Outcome.{Outcome}
 use Rattle.mud_checker.specs.Finding.{IsFinding}
 
--- what is doubted
+-- the text of a doubt
 abbrev pub doubt_text : Doubt → List ℕ
 doubt_text doubts.OutOfMemory = codes "out of memory"
 doubt_text (doubts.NoSuchPlayer player) = codes "no such player " ++ object_text player
@@ -24,7 +24,7 @@ doubt_text (doubts.WalkLocked player at) = codes "walk locked at " ++ decimal at
 doubt_text (doubts.WalkCost player) = codes "walk cost of " ++ object_text player
 doubt_text doubts.Conclusion = codes "conclusion"
 
--- what is wrong with a history
+-- the text of a history's fault
 abbrev pub fault_text : ChronFault → List ℕ
 fault_text faults.OutOfMemory = codes "out of memory"
 fault_text faults.NotHistory = codes "not a history"
@@ -54,7 +54,7 @@ status_code Accepted = 0
 status_code Refused = 1
 status_code Unreadable = 2
 
--- the line and the status are those of what is found of the texts
+-- the line and the status are those of the finding for the texts
 pub record IsVerdict (history proof : List ℕ) (outcome : Outcome) : Type 0 where
   pub finding : Finding
   pub is_found : IsFinding history proof finding

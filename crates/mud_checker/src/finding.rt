@@ -1,4 +1,4 @@
-//! What is found of two texts.
+//! Findings: the checker's result for two texts.
 
 ghost use Rattle.std.specs.Prelude.{◌≡◌, ◌≢◌, ◌≤◌, length, IfOk, IfErr};
 ghost use Rattle.mud_chron.specs.Replay.{changes_of, world_at, AreLegal};
@@ -11,35 +11,35 @@ use mud_chron::{ChronFault, Entry, read_history, replay};
 use mud_world::World;
 use std::alloc::{AllocError, Global};
 
-/// What a history's text and a proof's text come to (docs/CHECKER.md). `IsFinding` in specs/Finding.antt says of which
-/// texts each is found: of any two texts one is.
+/// The finding for a history's text and a proof's text (docs/CHECKER.md). `IsFinding` in specs/Finding.antt defines
+/// which texts have which finding; any two texts have exactly one.
 #[derive(Debug, Drop)]
 pub enum Finding {
-    /// The certificate is valid in the world of which it speaks.
+    /// The certificate is valid in the world that it is about.
     Accepted,
-    /// The certificate speaks of this version, and the history has fewer entries.
+    /// The certificate is about this version, and the history has fewer entries.
     NoVersion(u32),
-    /// This is the first doubt of the certificate.
+    /// Returns the first doubt of the certificate.
     Doubted(Doubt),
-    /// The history's text spells no entries, or they are not all legal.
+    /// The history's text is not the text of any entries, or an entry is illegal where it occurs.
     BadHistory(ChronFault),
-    /// The proof's text is no certificate's: this line, counted from 1, is bad.
+    /// The proof's text is not a certificate's: this line, counted from 1, is bad.
     BadProof(usize),
 }
 
-/// How a checker ends.
+/// The outcome of a check.
 #[derive(Clone, Copy, Debug, PartialEq, Eq)]
 pub enum Status {
     /// The certificate was accepted.
     Accepted,
-    /// The certificate was read and refused.
+    /// The certificate was read and rejected.
     Refused,
-    /// A text couldn't be read.
+    /// A text could not be read.
     Unreadable,
 }
 
 impl Status {
-    /// The exit status of the program: 0 accepted, 1 refused, 2 unreadable.
+    /// Returns the exit status of the program: 0 accepted, 1 rejected, 2 unreadable.
     pub fn code(self) -> u8
         ensures { result ≡ status_code self }
     {
@@ -51,7 +51,7 @@ impl Status {
     }
 }
 
-// The entries of a history's text, each legal where it stands, or the text's fault.
+// Returns the entries of a history's text, if each is legal where it occurs, or the text's fault.
 fn history_of(alloc: Global, text: &[u8]) -> Result<Vec<Entry>, ChronFault>
     ensures ok { IfOk result (λ entries. IsHistory text.now entries.items) }
     ensures err { IfErr result (λ fault. fault ≢ ChronFault.OutOfMemory → IsUnfit text.now fault) }
@@ -63,7 +63,7 @@ fn history_of(alloc: Global, text: &[u8]) -> Result<Vec<Entry>, ChronFault>
     }
 }
 
-// The world after the first entries, as many as the version says.
+// Returns the world after the first `version` entries.
 fn world_at(alloc: Global, entries: &[Entry], version: usize) -> Result<World, AllocError>
     requires reached { version ≤ length entries.now }
     requires legal { AreLegal (changes_of entries.now) }
@@ -73,13 +73,13 @@ fn world_at(alloc: Global, entries: &[Entry], version: usize) -> Result<World, A
         Ok(world) => Ok(world),
         Err(fault) => match fault {
             ChronFault::OutOfMemory => Err(AllocError),
-            // All of the changes are legal: a replay has no other fault.
+            // all changes are legal, and a replay has no other fault
             _ => unreachable!(),
         },
     }
 }
 
-// What is found of a certificate, after a history.
+// Returns the finding for a certificate, given a history.
 fn try_certificate(alloc: Global, entries: &[Entry], cert: &Cert) -> Result<Finding, AllocError>
     requires { AreLegal (changes_of entries.now) }
     ensures { IfOk result (IsTried entries.now cert.now) }
@@ -96,9 +96,9 @@ fn try_certificate(alloc: Global, entries: &[Entry], cert: &Cert) -> Result<Find
     }
 }
 
-/// What is found of a history's text and a proof's: the history is read and replayed to its end,
-/// then the proof is read, then its version is looked at, and at last the certificate is tried in
-/// the world of its version. The only error is out of memory.
+/// Returns the finding for a history's text and a proof's text. It reads and replays the whole history, reads the
+/// proof, compares the proof's version, and checks the certificate in the world of that version. The only error is out
+/// of memory.
 pub fn finding_of(alloc: Global, history: &[u8], proof: &[u8]) -> Result<Finding, AllocError>
     ensures { IfOk result (IsFinding history.now proof.now) }
 {

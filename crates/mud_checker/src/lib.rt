@@ -1,18 +1,18 @@
-//! What is found of a history's text and a certificate's, as the checker says it.
+//! The checker as a library: its finding for the texts of a history and of a certificate.
 //!
-//! | Call | Answer |
+//! | Call | Result |
 //! |---|---|
-//! | [`verdict`] | the line of the finding, without its end, and how a checker ends |
-//! | [`Finding`], [`Status`] | what a checker finds of a history's text and a proof's, and how it ends |
-//! | [`without_returns`] | the bytes of a text without each CR that stands directly before LF |
+//! | [`verdict`] | the line of the finding, without its end, and the status |
+//! | [`Finding`], [`Status`] | the finding for a history's text and a proof's text, and the outcome |
+//! | [`without_returns`] | the bytes of a text without each CR directly before a LF |
 //!
 //! ```text
 //! let outcome = verdict(alloc, history, proof)?; // accepted, or what is refused, or what can't be read
 //! ```
 //!
-//! The order of what is tried is docs/CHECKER.md's. Proved is that the line and the status are those of the definitions
-//! for the two texts, and that `accepted` comes only where the certificate is valid in the world after the first
-//! entries of that history, as many as it names. The laws of the definitions are the contracts of [`laws`].
+//! docs/CHECKER.md has the order of the tests. Proved: the line and the status are those of the definitions for the two
+//! texts. `accepted` means that the certificate is valid in the world of its version, after the first entries of that
+//! history. The contracts of [`laws`] are the laws of the definitions.
 #![tactic(auto)]
 
 mod finding;

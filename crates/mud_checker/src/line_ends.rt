@@ -1,12 +1,11 @@
-//! The ends of lines.
+//! Line ends.
 
 ghost use Rattle.std.specs.Prelude.{◌≡◌, IfOk};
 ghost use Rattle.mud_checker.specs.Finding.{without_returns};
 
 use std::alloc::{AllocError, Global};
 
-/// The bytes without each CR that stands directly before LF: of CR CR LF one CR is left. The only error is out of
-/// memory.
+/// Returns the bytes without each CR directly before a LF; CR CR LF keeps one CR. The only error is out of memory.
 pub fn without_returns(alloc: Global, bytes: &[u8]) -> Result<Vec<u8>, AllocError>
     ensures { IfOk result (λ kept. kept.items ≡ without_returns bytes.now) }
 {

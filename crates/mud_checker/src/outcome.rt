@@ -1,4 +1,4 @@
-//! The line of a finding, and its status.
+//! The line and the status of a finding.
 
 ghost use Rattle.std.specs.Prelude.{◌≡◌, ◌++◌, codes, decimal, IfOk, OnOk, string_bytes};
 ghost use Rattle.mud_checker.specs.declared.finding.Status.TheVariants.{Accepted};
@@ -12,12 +12,12 @@ use mud_chron::ChronFault;
 use std::alloc::{AllocError, Global};
 use std::fmt::Write;
 
-/// What is said of two texts: the line that is printed, without its end, and the status.
+/// The result for two texts: the line to print, without its end, and the status.
 #[derive(Debug, Drop)]
 pub struct Outcome {
     /// The line (docs/CHECKER.md, "Lines").
     pub text: String,
-    /// How the program ends.
+    /// The exit status of the program.
     pub status: Status,
 }
 
@@ -28,7 +28,7 @@ fn push_numbered(out: &mut String, words: &str, number: usize) -> Result<(), All
     write!(out, "{words}{number}")
 }
 
-// Appends the words, the place in a walk, and whose walk it is.
+// Appends the words, the place in a walk, and the player of the walk.
 fn push_place(out: &mut String, words: &str, at: usize, player: u32) -> Result<(), AllocError>
     ensures { OnOk result (string_bytes out.new
         ≡ string_bytes out.old ++ (words.now ++ decimal at ++ codes " of " ++ object_text player)) }
@@ -36,7 +36,7 @@ fn push_place(out: &mut String, words: &str, at: usize, player: u32) -> Result<(
     write!(out, "{words}{at} of #{player}")
 }
 
-// Appends what is doubted.
+// Appends a doubt.
 fn push_doubt(out: &mut String, doubt: Doubt) -> Result<(), AllocError>
     ensures { OnOk result (string_bytes out.new ≡ string_bytes out.old ++ doubt_text doubt) }
 {
@@ -53,7 +53,7 @@ fn push_doubt(out: &mut String, doubt: Doubt) -> Result<(), AllocError>
     }
 }
 
-// Appends what is wrong with a history.
+// Appends the fault of a history.
 fn push_fault(out: &mut String, fault: &ChronFault) -> Result<(), AllocError>
     ensures { OnOk result (string_bytes out.new ≡ string_bytes out.old ++ fault_text fault.now) }
 {
@@ -86,7 +86,7 @@ fn push_finding(out: &mut String, finding: &Finding) -> Result<(), AllocError>
     }
 }
 
-// The status of a finding.
+// Returns the status of a finding.
 fn status_of(finding: &Finding) -> Status
     ensures { result ≡ status_of finding.now }
 {
@@ -97,9 +97,9 @@ fn status_of(finding: &Finding) -> Status
     }
 }
 
-/// The line and the status of a history's text and a proof's (docs/CHECKER.md). Where the status is `Accepted`, the
-/// certificate is valid in the world after the first entries of that history, as many as it says, and its walks and
-/// what it concludes are the least there. The only error is out of memory.
+/// Returns the line and the status for a history's text and a proof's text (docs/CHECKER.md). The status `Accepted`
+/// means that the certificate is valid in the world of its version, after the first entries of that history, and that
+/// its walks and its conclusion are optimal there. The only error is out of memory.
 pub fn verdict(alloc: Global, history: &[u8], proof: &[u8]) -> Result<Outcome, AllocError>
     ensures finding { IfOk result (IsVerdict history.now proof.now) }
     ensures accepted { IfOk result

@@ -1,4 +1,4 @@
--- The entry of a line is found again, and a line is plain.
+-- Reading a line finds its entry, and a line is printable.
 use Rattle.std.proofs.Common.{◌≡◌, ℕ, ◌<◌, ◌≤◌, true, List, [], ◌∷◌, ◌++◌, Option, Some, None, refl, sym, ◌∙◌, ap}
 use Rattle.std.proofs.Common.{arith, leb, cond, append_assoc, codes}
 use Rattle.std.specs.Prelude.{◌^◌}
@@ -46,7 +46,7 @@ back_again (Some names) h =
     ap (λ (o : Option (List (List ℕ) × List ℕ)). o >>= (λ names. Some (Some names.0)))
     (ap names_before (sym (append-nil (with_commas names ++ codes "\""))) ∙ names_before_again names [] h)
 
--- after the first quote stand the names of the exit, and then the exit back
+-- after the first quote: the names of the exit, and then the exit back
 behind_again : (doors : Doors) → AreDoors (Some doors)
     → (names_before ((with_commas doors.out ++ codes "\"") ++ back_text doors.back) >>=
     (λ out. back_in out.1 >>= (λ back. Some (Some (record { out = out.0; back = back }))))) ≡ Some (Some doors)
@@ -62,7 +62,7 @@ unfolding doors_in quoted_in
 doors_again None h = refl
 doors_again (Some doors) h = behind_again doors h
 
--- the exits without the space in front
+-- the exits without the leading space
 way_again : (doors : Doors) → AreDoors (Some doors)
     → doors_in (codes "out " ++ in_quotes doors.out ++ back_text doors.back) ≡ Some (Some doors)
 unfolding doors_in quoted_in
@@ -84,7 +84,7 @@ dig_again (Old room) (Some doors) r h =
 
 -- ---- deeds
 
--- where the parts of a change's text are found, the change is found
+-- if the parts of a change's text are found, the change is found
 parts_again : (v : Verb) (word rest : List ℕ) (actor : ℕ) (d : Deed) → actor ≤ LAST_NUMBER → lacks SPACE word ≡ true
     → verb_in word ≡ Some v → deed_in v rest ≡ Some d
     → change_in (word ++ SPACE ∷ (number_text actor ++ SPACE ∷ rest)) ≡ Some (record { actor = actor; deed = d })
@@ -103,7 +103,7 @@ parts_again v word rest actor d le plain known found =
     (object_before_again actor rest le)
     ∙ ap (λ (o : Option Deed). o >>= (λ d. Some (record { actor = actor; deed = d }))) found
 
--- an object, and what stands after it
+-- an object, and the text after it
 then_again : {A B : Type 0} (n : ℕ) (rest : List ℕ) (find : List ℕ → Option A) (make : ℕ → A → B) (x : A)
     → n ≤ LAST_NUMBER → find rest ≡ Some x
     → (object_before (number_text n ++ SPACE ∷ rest) >>= (λ p. find p.1 >>= (λ x. Some (make p.0 x)))) ≡ Some (make n x)
@@ -111,7 +111,7 @@ then_again {A = A} n rest find make x le found =
     ap (λ (o : Option (ℕ × List ℕ)). o >>= (λ p. find p.1 >>= (λ x. Some (make p.0 x)))) (object_before_again n rest le)
     ∙ ap (λ (o : Option A). o >>= (λ x. Some (make n x))) found
 
--- the word of a deed, and what stands after the actor
+-- the word of a deed, and the text after the actor
 abbrev pub deed_word : Deed → List ℕ
 deed_word (Dig target doors) = codes "dig"
 deed_word (Make names) = codes "make"
@@ -227,7 +227,7 @@ line_shape version e =
     ∙ append_assoc (decimal version ++ codes " ") (decimal e.desk) (SPACE ∷ text)
     ∙ append_assoc (decimal version) (codes " ") (decimal e.desk ++ SPACE ∷ text)
 
--- the entry of a line is found, whatever version it makes
+-- reading a line finds its entry, whatever its version
 pub entry_again : (version : ℕ) (e : Entry) → version < 2 ^ 64 → IsEntry e → entry_in (entry_line version e) ≡ Some e
 unfolding entry_in
 entry_again version e fits is =
@@ -317,7 +317,7 @@ plain_deed actor d a r h =
     ∙ plain_behind (deed_word d) (actor ++ SPACE ∷ rest_of d) (plain_word d)
     (plain_behind actor (rest_of d) a (plain_rest d r h))
 
--- a line has only bytes from the space to the tilde
+-- each byte of a line is from the space to the tilde
 pub plain_line : (version : ℕ) (e : Entry) → version < 2 ^ 64 → IsEntry e
     → list_all plain (entry_line version e) ≡ true
 plain_line version e fits is =

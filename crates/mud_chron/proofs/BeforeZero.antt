@@ -14,7 +14,7 @@ to_zero b bytes is = ap (λ t. cond t [] (b ∷ up_to_zero bytes)) (eq-eqb b 0 i
 pub past : (b : ℕ) (bytes : List ℕ) → b ≢ 0 → up_to_zero (b ∷ bytes) ≡ b ∷ up_to_zero bytes
 past b bytes is = ap (λ t. cond t [] (b ∷ up_to_zero bytes)) (ne_eqb b 0 is)
 
--- a zero at place i, and none before
+-- there is a zero at place i, and none before
 pub ends_at : (bytes : List ℕ) (i : ℕ) → i < length bytes → get_or bytes i 0 ≡ 0
     → ((k : ℕ) → k < i → get_or bytes k 0 ≡ 0 → ⊥) → take i bytes ≡ up_to_zero bytes
 ends_at [] i lt at none = absurd (omega (arith, lt))
@@ -23,7 +23,7 @@ ends_at (b ∷ bytes) (suc i) lt at none =
     ap (λ t. b ∷ t) (ends_at bytes i (omega (arith, lt)) at (λ k less. none (suc k) (omega (arith, less))))
     ∙ sym (past b bytes (none 0 (omega arith)))
 
--- no zero at all
+-- there is no zero
 pub ends_nowhere : (bytes : List ℕ) → ((k : ℕ) → k < length bytes → get_or bytes k 0 ≡ 0 → ⊥)
     → bytes ≡ up_to_zero bytes
 ends_nowhere [] none = refl
@@ -31,7 +31,7 @@ ends_nowhere (b ∷ bytes) none =
     ap (λ t. b ∷ t) (ends_nowhere bytes (λ k less. none (suc k) (omega (arith, less))))
     ∙ sym (past b bytes (none 0 (omega arith)))
 
--- they are a front of all
+-- they are a prefix of all bytes
 pub begin : (bytes : List ℕ) → (behind : List ℕ) × (up_to_zero bytes ++ behind ≡ bytes)
 begin [] = ([], refl)
 begin (b ∷ bytes) = go (cases_eq b 0) (begin bytes)
@@ -42,7 +42,7 @@ begin (b ∷ bytes) = go (cases_eq b 0) (begin bytes)
     go (inr some) (behind, is) =
         (behind, ap (λ t. t ++ behind) (past b bytes some) ∙ ap (λ t. b ∷ t) is)
 
--- they go on behind what has no zero
+-- after a text without zeros they continue
 pub behind_text : (text behind : List ℕ) → HasNoZero text → up_to_zero (text ++ behind) ≡ text ++ up_to_zero behind
 behind_text [] behind none = refl
 behind_text (b ∷ text) behind none =

@@ -1,4 +1,4 @@
--- A text that has begun, and its next line.
+-- A text that begins with some entries, and its next line.
 use Rattle.std.proofs.Common.{◌≡◌, ℕ, ◌+◌, ◌<◌, List, [], ◌∷◌, ◌++◌, length, sym, ◌∙◌, ap, arith, append_assoc}
 use Rattle.std.proofs.lemmas.List.{append-nil, length-append}
 use Rattle.std.specs.List.{AllByRecursion}
@@ -40,7 +40,7 @@ begun-push format es e more =
     ∙ ap (λ (x : List ℕ). head ++ x ++ more)
     (ap (λ v. entries_text 1 es ++ entry_text v e) now ∙ sym (entries_text-push 1 es e))
 
--- after an entry's line the text has begun with that entry too
+-- after an entry's line, the text begins with that entry too
 pub next_entry : (format : Format) (es : List Entry) (bytes rest line more : List ℕ) (count : ℕ) (e : Entry)
     → Begins format es bytes rest → rest ≡ line ++ line_feed ++ more
     → count ≡ length es → IsLine format count line (lines.Entry e) → length es < MOST_ENTRIES
@@ -54,7 +54,7 @@ next_entry format es bytes rest line more count e b cut counted is few = record 
       ∙ begun-push format es e more;
 }
 
--- after the last entry that a text can have stands one more
+-- one more entry follows the last one that a text may have
 pub too_long : (format : Format) (es : List Entry) (bytes rest line more : List ℕ) (count : ℕ) (e : Entry)
     → Begins format es bytes rest → rest ≡ line ++ line_feed ++ more
     → count ≡ length es → IsLine format count line (lines.Entry e) → length es ≡ MOST_ENTRIES → IsTooLong bytes

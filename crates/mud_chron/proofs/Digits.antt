@@ -1,4 +1,4 @@
--- What is spelled of a number is found as the number.
+-- The spelling of a number reads back as the number.
 use Rattle.std.proofs.Common.{◌≡◌, ℕ, ◌+◌, ◌-◌, ◌*◌, ◌/◌, ◌%◌, ◌^◌, ◌<◌, ◌≤◌, true, List, [], ◌∷◌, ◌++◌}
 use Rattle.std.proofs.Common.{Option, Some, None, leb, ltb, refl, sym, ◌∙◌, ap, arith}
 use Rattle.std.proofs.Common.{append_assoc, eqb}
@@ -26,7 +26,7 @@ step n b bs e few =
 is-digit : (b : ℕ) → ZERO ≤ b → b ≤ NINE → is_digit b ≡ true
 is-digit b lo hi = and_from (leb ZERO b) (leb b NINE) (le-leb ZERO b lo) (le-leb b NINE hi)
 
--- the digits of a number are read on as that number
+-- reading the digits of a number gives the number
 reads-on : (n : ℕ) → n < AMOUNTS → (rest : List ℕ) → digits_on 0 (decimal n ++ rest) ≡ digits_on n rest
 reads-on n few =
     decimal_by_steps (λ n ds. n < AMOUNTS → (rest : List ℕ) → digits_on 0 (ds ++ rest) ≡ digits_on n rest)
@@ -43,7 +43,7 @@ reads-on n few =
     ∙ ap (λ k. digits_on k rest) d)
     n (omega arith) few
 
--- a number is spelled by digits
+-- the spelling of a number consists of digits
 pub digits : (n : ℕ) → n < 2 ^ 64 → list_all is_digit (decimal n) ≡ true
 digits n fits = decimal_by_steps (λ n ds. list_all is_digit ds ≡ true)
     (λ n small. and_from (is_digit (ZERO + n)) true (is-digit (ZERO + n) (omega arith) (omega arith)) refl)
@@ -53,7 +53,7 @@ digits n fits = decimal_by_steps (λ n ds. list_all is_digit ds ≡ true)
     (and_from (is_digit (ZERO + n % 10)) true (is-digit (ZERO + n % 10) (omega arith) (omega arith)) refl))
     n fits
 
--- no sign below the digits stands in it
+-- the spelling contains no byte below the digits
 pub decimal_lacks : (c n : ℕ) → c < ZERO → n < 2 ^ 64 → lacks c (decimal n) ≡ true
 decimal_lacks c n low fits =
     implied is_digit (λ b. not (eqb b c))

@@ -1,4 +1,4 @@
--- A journal that is cut at any byte.
+-- A journal cut at any byte.
 use Rattle.std.proofs.Common.{◌≡◌, ◌≢◌, ℕ, zero, suc, ◌+◌, ◌-◌, ◌<◌, ◌≤◌, ◌⊎◌, inl, inr, Bool, true, false}
 use Rattle.std.proofs.Common.{List, [], ◌∷◌, ◌++◌, length, take, drop, get_or, Option, Some}
 use Rattle.std.proofs.Common.{refl, sym, ◌∙◌, ap, arith, subst, append_assoc}
@@ -37,7 +37,7 @@ plain_of text h = recursion_from_All (λ b. b ≢ LF) text h
 plain_entry : (version : ℕ) (e : Entry) → version < 2 ^ 64 → IsEntry e → IsPlain (entry_line version e)
 plain_entry version e fits is = lacks_all LF (entry_line version e) (entry_lacks version e fits is)
 
--- two lines that end, of which the second may be cut
+-- two lines with line ends; the second may be cut
 record SameLine (x y r s : List ℕ) (n : ℕ) : Type 0 where
   same : x ≡ y
   fits : length y < n
@@ -63,7 +63,7 @@ same_line (a ∷ x) (b ∷ y) r s (suc n) hx hy e =
       behind = more.behind ∙ ap (λ m. take m s) k;
     }
 
--- a line that has not ended is cut in front of its end
+-- a line without its end is cut before its end
 torn_line : (t y s : List ℕ) (n : ℕ) → IsPlain t → t ≡ take n (y ++ LF ∷ s) → n ≤ length y
 torn_line t y s zero h e = omega arith
 torn_line t [] s (suc n) h e = absurd ((subst IsPlain e h).0 refl)
@@ -74,7 +74,7 @@ torn_line t (b ∷ y) s (suc n) h e =
 
 -- ---- the lines of entries
 
--- an entry's line in front
+-- a text that begins with an entry's line
 entry_front : (version : ℕ) (e : Entry) (text : List ℕ)
     → entry_text version e ++ text ≡ entry_line version e ++ LF ∷ text
 entry_front version e text = append_assoc (entry_line version e) line_feed text
@@ -88,7 +88,7 @@ length_entry : (version : ℕ) (e : Entry) (text : List ℕ)
 length_entry version e text =
     omega (arith, ap length (entry_front version e text), length-append (entry_line version e) (LF ∷ text))
 
--- the lines of the entries got, and then this rest, are a front of the lines of these entries
+-- the lines of the entries found, followed by this rest, are a prefix of the lines of these entries
 record Cuts (version : ℕ) (entries got : List Entry) (n : ℕ) (rest : List ℕ) : Type 0 where
   more : List Entry
   front : entries ≡ got ++ more
@@ -160,7 +160,7 @@ length_head : (format : Format) → length (head_text format) ≡ 14
 length_head One = refl
 length_head Two = refl
 
--- two first lines of one length are one
+-- two first lines of equal length are equal
 same_front : (h k x t : List ℕ) (n : ℕ) → length h ≡ length k → h ++ x ≡ take n (k ++ t) → h ≡ k
 same_front [] [] x t n l e = refl
 same_front [] (b ∷ k) x t n l e = absurd (omega arith)
@@ -193,7 +193,7 @@ behind_front (b ∷ h) x t (suc n) e =
     let k : n - length h ≡ suc n - length (b ∷ h) = omega arith in
     record { fits = omega (arith, more.fits); behind = more.behind ∙ ap (λ m. take m t) k }
 
--- a front ends in the first line, or goes on after it
+-- a prefix ends in the first line, or after it
 front_cases : (h t : List ℕ) (n : ℕ)
     → ((more : List ℕ) × (h ≡ take n (h ++ t) ++ more)) ⊎ ((rest : List ℕ) × (take n (h ++ t) ≡ h ++ rest))
 front_cases [] t n = inr (take n t, refl)
@@ -210,7 +210,7 @@ some_there : (xs : List ℕ) → xs ≢ [] → 0 < length xs
 some_there [] h = absurd (h refl)
 some_there (x ∷ xs) h = omega arith
 
--- a front that is shorter than a first line; both are of the same length
+-- a prefix shorter than a first line; both first lines have equal length
 short_front : (h k t bytes more : List ℕ) (n : ℕ) → length h ≡ length k → more ≢ [] → bytes ++ more ≡ h
     → bytes ≡ take n (k ++ t) → n < length k
 short_front h k t bytes more n same some whole e =
@@ -229,7 +229,7 @@ length_journal : (format : Format) (es : List Entry)
     → length (journal_text format es) ≡ length (head_text format) + length (entries_text 1 es)
 length_journal format es = length-append (head_text format) (entries_text 1 es)
 
--- the bytes are a front of a journal of some entries, and begin with the text of these
+-- the bytes are a prefix of a journal of some entries, and begin with the text of these
 record BegunFront (f g : Format) (entries got : List Entry) (n : ℕ) (rest : List ℕ) : Type 0 where
   same : f ≡ g
   head : length (head_text f) ≤ n
@@ -285,9 +285,9 @@ one_more format got e = omega (arith, grown got 1, length_journal format got, le
           length_entry version f (entries_text (version + 1) es),
         )
 
--- ---- what is found
+-- ---- the recovered entries
 
--- bytes that begin no first line and then go on, where more of the first line is to come
+-- bytes that begin no first line can't be continued to one
 more_to_come : (head : Format) (bytes more : List ℕ) → IsNoHistory bytes → bytes ++ more ≡ head_text head → more ≢ []
 more_to_come head bytes more unended whole none =
     unended head []
@@ -349,9 +349,9 @@ recovers_whole format found entries got n keep allowed r = go r.ends
     go (inl new) = whole_head format found entries got n keep bytes refl new
     go (inr s) = whole_line format found entries got n keep bytes allowed r.allowed refl s
 
--- ---- what has a fault
+-- ---- bytes with a fault
 
--- the bytes are no journal that was cut at a byte
+-- the bytes are not a prefix of any journal
 abbrev IsNoFront : List ℕ → Type 0
 IsNoFront bytes =
     (format : Format) (entries : List Entry) (n : ℕ) → AreEntriesOf format entries
@@ -372,12 +372,12 @@ last_one : (format : Format) (got more : List Entry) (f : Entry)
 last_one format [] more f h = h.0
 last_one format (g ∷ got) more f h = last_one format got more f h.1
 
--- the rest by its line
+-- the rest by its first line
 cut_begins : (g : Format) (got : List Entry) (bytes line more : List ℕ)
     → Begins g got bytes (line ++ line_feed ++ more) → Begins g got bytes (line ++ LF ∷ more)
 cut_begins g got bytes line more = subst (Begins g got bytes) (append_assoc line line_feed more)
 
--- a line that is none of the next entry's
+-- a line that is not the next entry's
 no_line : (bytes : List ℕ) (n : ℕ) → HasOtherLine bytes n → IsNoFront bytes
 no_line bytes n h = λ format entries n allowed e.
     let p =
@@ -401,7 +401,7 @@ no_line bytes n h = λ format entries n allowed e.
         let v : 1 + length h.entries ≡ length h.entries + 1 = omega arith in
         h.other f (subst (λ x. IsEntryOf x f) same is) (one.same ∙ ap (λ w. entry_line w f) v)
 
--- after the last entry that a text can have stands one more
+-- one more entry follows the last one that a text may have
 past_end : (g : Format) (got : List Entry) (bytes line more : List ℕ)
     → Begins g got bytes (line ++ line_feed ++ more) → length got ≡ MOST_ENTRIES → IsNoFront bytes
 past_end g got bytes line more begins full = λ format entries n allowed e.
@@ -426,7 +426,7 @@ faults_are_no_fronts bytes fault.NoEnd h = absurd h
 
 -- ---- nothing is lost
 
--- of two fronts of one list the first begins the second, or goes on after it
+-- of two prefixes of one list, the first is a prefix of the second, or continues it
 record GoesOn (synced got more : List Entry) : Type 0 where
   e : Entry
   rest : List Entry
@@ -487,7 +487,7 @@ nothing_is_lost format found synced after got n keep allowed long recovered =
           ap (λ es. length (entries_text 1 es)) p.synced_is,
         ))
 
--- ---- the answers of recovery
+-- ---- the answers of the reader
 
 pub found_in_head : (bytes : List ℕ) (got : List Entry) → IsNoHistory bytes → BeginsHead bytes → got ≡ []
     → Recovers bytes Two got 0
@@ -525,7 +525,7 @@ other_line g got bytes rest line more count n begins cut plain counted other num
   number = number ∙ ap (λ c. c + 2) counted;
 }
 
--- a line that is neither that of a next entry nor the last one
+-- a line that is neither the next entry's nor the last one
 pub bad_line : (g : Format) (got : List Entry) (bytes rest line more : List ℕ) (count n : ℕ)
     → Begins g got bytes rest → rest ≡ line ++ line_feed ++ more → HasNoLineFeed line → count ≡ length got
     → IsBad g count line → n ≡ count + 2 → HasBadLine bytes n
@@ -534,12 +534,12 @@ bad_line g got bytes rest line more count n begins cut plain counted is number =
   no_end = subst (λ c. line ≢ end_line c) counted is.1;
 }
 
--- the last line of a history is that of no entry
+-- the last line of a history is not an entry's line
 pub end_is_other : (g : Format) (count : ℕ) (line : List ℕ) → count ≤ MOST_ENTRIES → line ≡ end_line count
     → IsNoEntryLine g (count + 1) line
 end_is_other g count line few is = λ e entry same. end_apart count (count + 1) e (omega arith) (sym is ∙ same)
 
--- whether a text begins another, as `starts_with` tells
+-- the two results of `starts_with` for a text and its possible prefix
 pub prefix_cases : (r : Bool) (bytes head : List ℕ)
     → (r ≡ true → head ≡ bytes ++ drop (length bytes) head) × ((rest : List ℕ) → head ≡ bytes ++ rest → r ≡ true)
     → MatchBool r (IsPrefix bytes head) (IsPrefix bytes head → ⊥)
@@ -557,9 +557,9 @@ head_cases false bytes one two is_one is_two other none = λ h. go h.0 h.1
     go One p = other (subst (IsPrefix bytes) (sym is_one) p)
     go Two p = none (subst (IsPrefix bytes) (sym is_two) p)
 
--- ---- whatever stands behind
+-- ---- any bytes after the journal
 
--- two lines that end
+-- two lines with line ends
 two_lines : (x y r s : List ℕ) → IsPlain x → IsPlain y → x ++ LF ∷ r ≡ y ++ LF ∷ s → (x ≡ y) × (r ≡ s)
 two_lines [] [] r s hx hy e = (refl, cc)
 two_lines [] (b ∷ y) r s hx hy e = let t : b ≡ LF = cc in absurd (hy.0 t)
@@ -570,12 +570,12 @@ two_lines (a ∷ x) (b ∷ y) r s hx hy e =
     let more = two_lines x y r s hx.1 hy.1 tail in
     (ap (λ c. c ∷ x) head ∙ ap (λ t. b ∷ t) more.0, more.1)
 
--- a line that has not ended has no line that has
+-- a line without an end does not contain one
 no_end_in : (x y : List ℕ) → IsPlain (x ++ LF ∷ y) → ⊥
 no_end_in [] y h = h.0 refl
 no_end_in (a ∷ x) y h = no_end_in x y h.1
 
--- two first lines of one length
+-- two first lines of equal length
 two_heads : (h k x y : List ℕ) → length h ≡ length k → h ++ x ≡ k ++ y → (h ≡ k) × (x ≡ y)
 two_heads [] [] x y l e = (refl, e)
 two_heads [] (b ∷ k) x y l e = absurd (omega (arith, l))
@@ -586,7 +586,7 @@ two_heads (a ∷ h) (b ∷ k) x y l e =
     let more = two_heads h k x y (omega (arith, l)) tail in
     (ap (λ c. c ∷ h) head ∙ ap (λ t. b ∷ t) more.0, more.1)
 
--- lines and whatever stands behind them are the lines of these entries and one that has not ended
+-- lines followed by any bytes are the lines of these entries and an incomplete line
 lines_begin : (format : Format) (version : ℕ) (es got : List Entry) (behind torn : List ℕ)
     → version + length es < 2 ^ 64 → version + length got < 2 ^ 64
     → AllByRecursion (IsEntryOf format) es → AllByRecursion (IsEntryOf format) got → IsPlain torn
@@ -607,7 +607,7 @@ lines_begin format version (f ∷ es) (g ∷ got) behind torn few fits all these
     these.1 plain two.1 in
     (rest.0, ap (λ (x : Entry). x ∷ (es ++ rest.0)) same ∙ ap (λ (xs : List Entry). g ∷ xs) rest.1)
 
--- whatever stands behind the text of a journal, its entries are found
+-- if any bytes follow the text of a journal, its entries are found
 pub found_whatever_follows : (format found : Format) (synced : List Entry) (behind : List ℕ) (got : List Entry)
     (keep : ℕ) → AreEntriesOf format synced → Recovers (journal_text format synced ++ behind) found got keep
     → IsPrefix synced got
@@ -638,7 +638,7 @@ found_whatever_follows format found synced behind got keep allowed r = go r.ends
         (length_head format ∙ sym (length_head found))
         (sym begins ∙ spelled ∙ append_assoc (head_text found) (entries_text 1 got) torn))
 
--- lines and whatever stands behind them are the lines of these entries and one that is none of the next entry's
+-- lines followed by any bytes are the lines of these entries and a line that is not the next entry's
 other_behind : (format : Format) (version : ℕ) (es got : List Entry) (behind line rest : List ℕ)
     → version + length es < 2 ^ 64 → version + length got < 2 ^ 64
     → AllByRecursion (IsEntryOf format) es → AllByRecursion (IsEntryOf format) got → IsPlain line
@@ -666,7 +666,7 @@ other_behind format version (f ∷ es) (g ∷ got) behind line rest few fits all
     plain (subst (λ v. IsNoEntryLine format v line) at other) two.1 in
     (more.0, ap (λ (x : Entry). x ∷ (es ++ more.0)) same ∙ ap (λ (xs : List Entry). g ∷ xs) more.1)
 
--- whatever stands behind the text of a journal, a line that is none stands behind all its lines
+-- if any bytes follow the text of a journal, a bad line comes after all its lines
 pub bad_line_behind : (format : Format) (synced : List Entry) (behind : List ℕ) (n : ℕ) → AreEntriesOf format synced
     → HasOtherLine (journal_text format synced ++ behind) n → length synced + 2 ≤ n
 bad_line_behind format synced behind n allowed h =

@@ -14,7 +14,7 @@ use Rattle.mud_world.specs.declared.refusal.Refusal.{Refusal}
 use Rattle.mud_chron.specs.Replay.{changes_of, AreLegalFrom, AreLegal, IsFirstIllegal}
 use Rattle.mud_chron.specs.Entry.{Entry}
 
--- a legal change is made
+-- a legal change is applied
 made : (w : State) (c : Change) → refusal w c ≡ None → step_or_same w c ≡ after w c
 made w c legal = ap (λ o. if is_none o then after w c else w) legal
 
@@ -32,7 +32,7 @@ changes-more : (es : List Entry) (i : ℕ) (d : Entry) → i < length es
 changes-more es i d h =
     ap changes_of (take_more es i d h) ∙ map-append (λ (e : Entry). e.change) (take i es) (get_or es i d ∷ [])
 
--- where all are legal, each is
+-- if all changes are legal, each is
 legal-at : (w : State) (before : List Change) (e : Change) (behind : List Change)
     → AreLegalFrom w (before ++ e ∷ behind) → refusal (world_from w before) e ≡ None
 legal-at w [] e behind legal = legal.0

@@ -1,4 +1,4 @@
--- What is found of a line is the only entry that may have it.
+-- The entry found in a line is the only one that may have it.
 use Rattle.std.proofs.Common.{◌≡◌, ℕ, zero, suc, ◌<◌, true, List, [], ◌∷◌, arith, ltb, get_or}
 use Rattle.std.specs.Prelude.{not, ◌^◌}
 use Rattle.std.specs.List.{list_all}
@@ -28,7 +28,7 @@ pub utf8_line : (version : ℕ) (e : Entry) → version < 2 ^ 64 → IsEntry e �
 utf8_line version e fits is =
     IsUtf8-from_ascii (entry_line version e) (λ i. ascii (entry_line version e) (plain_line version e fits is) i)
 
--- what was found of the text is the entry whose line it is
+-- the entry found in the text is the one with that line
 pub entry-found : (r : Result Entry Unread) (line : List ℕ) (version : ℕ) (e : Entry) → Tells (λ x. x) r (entry_in line)
     → version < 2 ^ 64 → IsEntry e → line ≡ entry_line version e → Finds (λ x. x ≡ e) r
 entry-found (Ok x) line version e h fits is same =

@@ -1,4 +1,4 @@
--- The text of a history has no CR.
+-- The text of a history contains no CR.
 use Rattle.std.proofs.Common.{◌≡◌, ℕ, ◌+◌, ◌<◌, Bool, true, List, [], ◌∷◌, ◌++◌, length, refl, sym, subst, arith, eqb}
 use Rattle.std.proofs.Common.{ltb}
 use Rattle.std.specs.Prelude.{not, ◌&&◌, ◌^◌}
@@ -58,6 +58,6 @@ without_return text entries (format, are, is) =
     (both p (head_line format ++ line_feed ++ entries_text 1 entries)
     (end_line (length entries) ++ line_feed) lines end)
 
--- the text of a history has no CR
+-- the text of a history contains no CR
 pub has_no_returns : HasNoReturns
 has_no_returns text entries is = lacks_all CR text (without_return text entries is)

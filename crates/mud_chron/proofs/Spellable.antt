@@ -1,4 +1,4 @@
--- A change that is legal in a world can be spelled.
+-- A change that is legal in a world is spellable.
 use Rattle.std.proofs.Common.{◌≡◌, ℕ, ◌+◌, ◌≤◌, Bool, true, false, Some, None, refl, sym, ◌∙◌, ap, arith, eqb, ltb}
 use Rattle.std.specs.Prelude.{not, ◌||◌, is_some}
 use Rattle.std.proofs.lemmas.Bool.{eqb-true, ltb-false, true≢false}
@@ -91,7 +91,7 @@ in_range w sound actor (Recycle object) h =
 in_range w sound actor (Say text) h = tt
 in_range w sound actor (Emote text) h = tt
 
--- a legal change of a sound world can be spelled for any desk
+-- a legal change of a sound world is spellable for every desk
 pub legal_is_spellable : (w : State) (desk : ℕ) (change : Change) → IsSound w → refusal w change ≡ None → 1 ≤ desk
     → desk ≤ MOST_DESKS → IsSpellable desk change
 legal_is_spellable w desk change sound legal from to =

@@ -1,4 +1,4 @@
--- The parts of a line: their bytes, and that each is found again.
+-- The parts of a line: their bytes, and that each reads back.
 use Rattle.std.proofs.Common.{◌≡◌, ℕ, ◌<◌, ◌≤◌, Bool, true, List, [], ◌∷◌, ◌++◌, length, Option, Some, None}
 use Rattle.std.proofs.Common.{Ok, refl, sym, ◌∙◌, ap, subst, arith, eqb, leb, ltb, cond, append_assoc}
 use Rattle.std.proofs.Common.{codes}
@@ -166,11 +166,11 @@ plain_key (Join op a b) h =
     (plain_sign op)) refl)
     (plain_enclosed (by_text b) (printed (by_text b)) (plain_key b h.1))
 
--- a key counts what its text counts
+-- a key has the counts of its text
 counted : (t : Tree (List ℕ)) (k : Tree ℕ) → CountsAs (objects_of t) (nots_of t) (Ok k) → IsKey k → IsWithinLimits t
 counted t k c is = record { objects = omega (arith, c.0, is.limits.objects); nots = omega (arith, c.1, is.limits.nots) }
 
--- what is read of a key's text is resolved to that key
+-- the tree read from a key's text resolves to that key
 pub key_resolved : (key : Tree ℕ) (read : Tree (List ℕ)) → IsKey key → SpellsKey (printed (by_text key)) read
     → resolved meaning read ≡ Ok key
 key_resolved key read is spells =

@@ -1,4 +1,4 @@
--- Bytes tell one thing: the entries of a text, or one fault.
+-- Bytes have one meaning: the entries of a text, or one fault.
 use Rattle.std.proofs.Common.{◌≡◌, ◌≢◌, ℕ, ◌+◌, ◌<◌, ◌≤◌, ◌⊎◌, inl, inr, Bool, true, List, [], ◌∷◌, ◌++◌, length, drop}
 use Rattle.std.proofs.Common.{get_or, Option, Some, None, Result, Ok, Err, refl, sym, ◌∙◌, ap, subst, arith, eqb, ltb}
 use Rattle.std.proofs.Common.{append_assoc, codes}
@@ -34,7 +34,7 @@ use Rattle.mud_chron.proofs.Again.{entry_again, line_shape, plain_line}
 
 -- ---- lines
 
--- what is cut is cut one way
+-- a text is split in at most one way
 pub fronts : (cut_of : Option (List ℕ × List ℕ)) (a b x y : List ℕ) → cut_of ≡ Some (a, x) → cut_of ≡ Some (b, y)
     → (a ≡ b) × (x ≡ y)
 fronts cut_of a b x y h k =
@@ -59,7 +59,7 @@ end_lacks : (count : ℕ) → count < 2 ^ 64 → lacks LF (end_line count) ≡ t
 unfolding end_line
 end_lacks count fits = decimal_lacks LF count (omega arith) fits
 
--- the last line is no entry's
+-- the last line is not an entry's line
 pub end_apart : (count version : ℕ) (e : Entry) → version < 2 ^ 64 → end_line count ≡ entry_line version e → ⊥
 unfolding end_line
 end_apart count version e fits same =
@@ -73,7 +73,7 @@ end_apart count version e fits same =
     (ap (cut SPACE) same ∙ two)).0 in
     true≢false (sym (digits version fits) ∙ ap (list_all is_digit) (sym words))
 
--- ---- what stands after the entries
+-- ---- the bytes after the entries
 
 data View (format : Format) (entries : List Entry) (rest : List ℕ) : Result (List Entry) ChronFault → Type 0 where
   unended : cut LF rest ≡ None → View format entries rest (Err NoEnd)
@@ -87,7 +87,7 @@ data View (format : Format) (entries : List Entry) (rest : List ℕ) : Result (L
   bad : (line behind : List ℕ) (n : ℕ) → cut LF rest ≡ Some (line, behind) → IsBad format (length entries) line
       → n ≡ length entries + 2 → View format entries rest (Err (BadLine n))
 
--- the line of one more entry stands only after 65,536
+-- the line of one more entry follows only after 65,536 entries
 abbrev Stops : Format → ℕ → List ℕ → Type 0
 Stops format version rest =
     (e : Entry) (more : List ℕ) → IsEntryOf format e → rest ≡ entry_line version e ++ line_feed ++ more
@@ -167,9 +167,9 @@ one_view format entries rest a b few v w = go v w
     go (bad l x n h b is) (long m y e k is' full same) = absurd (entered m l y x e k h is' same b)
     go (bad l x n h b is) (bad m y n' k b' is') = numbers n n' (is ∙ sym is')
 
--- ---- the entries in front
+-- ---- the entries at the beginning
 
--- two lists of entries that begin one text, with nothing more after them, are one
+-- two lists of entries that begin one text, with nothing more after them, are equal
 same_entries : (format : Format) (version u w : ℕ) (es fs : List Entry) (r s : List ℕ)
     → AllByRecursion (IsEntryOf format) es → AllByRecursion (IsEntryOf format) fs
     → version + length es ≡ u → version + length fs ≡ w → u ≤ MOST_ENTRIES + 1 → w ≤ MOST_ENTRIES + 1
@@ -208,7 +208,7 @@ same_entries format version u w (e ∷ es) (f ∷ fs) r s h k ue we ul wl p q sa
     same_entries format (version + 1) u w es fs r s h.1 k.1 (omega arith) (omega arith) ul wl p q parts.1 in
     (ap (λ z. z ∷ es) first ∙ ap (λ zs. f ∷ zs) others.0, others.1)
 
--- ---- what the bytes tell
+-- ---- the meaning of the bytes
 
 record Told (bytes : List ℕ) (a : Result (List Entry) ChronFault) : Type 0 where
   format : Format

@@ -1,4 +1,4 @@
--- The text of a journal has no zero byte.
+-- The text of a journal contains no zero byte.
 use Rattle.std.proofs.Common.{◌≡◌, ◌≢◌, ℕ, ◌+◌, ◌<◌, Bool, true, List, [], ◌∷◌, ◌++◌, length, refl, arith, eqb}
 use Rattle.std.proofs.Common.{ltb}
 use Rattle.std.specs.Prelude.{not, ◌&&◌, ◌^◌}
@@ -35,7 +35,7 @@ head_passes : (format : Format) → list_all (λ b. not (eqb b 0)) (head_line fo
 head_passes One = refl
 head_passes Two = refl
 
--- the text of a journal has no zero byte
+-- the text of a journal contains no zero byte
 pub journal_has_no_zeros : (format : Format) (entries : List Entry) → AreEntriesOf format entries
     → AllByRecursion (λ b. b ≢ 0) (journal_text format entries)
 journal_has_no_zeros format entries are =

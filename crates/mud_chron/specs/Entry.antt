@@ -1,4 +1,4 @@
--- Entries of a history, and which there are.
+-- Entries of a history.
 pub use Rattle.mud_world.specs.Numbers.{IsNumber}
 pub use Rattle.mud_world.specs.DeedParts.{IsTarget, HasParts}
 use Rattle.std.specs.Prelude.{ℕ, ◌≤◌, Some, None}
@@ -15,7 +15,7 @@ pub record Entry : Type 0 where
   pub desk : ℕ
   pub change : Change
 
--- the numbers of a deed are in their ranges, and a way to an old room has an exit
+-- the numbers of a deed are in their ranges, and a dig to an existing room has an exit
 abbrev pub IsInRange : Deed → Type 0
 IsInRange (Dig (Old room) (Some doors)) = IsNumber room
 IsInRange (Dig (Old room) None) = ⊥
@@ -28,14 +28,14 @@ IsInRange (Rename object names) = IsNumber object
 IsInRange (Recycle object) = IsNumber object
 IsInRange other = Unit {0}
 
--- what a text can spell: the desk is 1 to 64, and all other numbers are in their ranges
+-- an entry that a text can spell: the desk is 1 to 64, and all other numbers are in their ranges
 pub record IsSpellable (desk : ℕ) (change : Change) : Type 0 where
   pub desk_from : 1 ≤ desk
   pub desk_to : desk ≤ MOST_DESKS
   pub actor : IsNumber change.actor
   pub deed : IsInRange change.deed
 
--- what is true of every entry
+-- the invariant of every entry
 pub record IsEntry (e : Entry) : Type 0 where
   pub spellable : IsSpellable e.desk e.change
   pub parts : HasParts e.change.deed

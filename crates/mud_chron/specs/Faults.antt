@@ -1,4 +1,4 @@
--- The faults of bytes that are no text of a history.
+-- The faults of bytes that are not the text of a history.
 use Rattle.std.specs.Prelude.{◌≡◌, ◌≢◌, ◌⊎◌, ℕ, ◌+◌, List, [], ◌++◌, length}
 use Rattle.mud_chron.specs.declared.fault.ChronFault.{ChronFault}
 use Rattle.mud_chron.specs.declared.fault.ChronFault.TheVariants.{NotHistory, BadLine, TooLong, NoEnd}
@@ -9,7 +9,7 @@ use Rattle.mud_chron.specs.Entry.{Entry}
 use Rattle.mud_chron.specs.Text.{line_feed, head_line, entry_line, end_line, journal_text}
 use Rattle.mud_chron.specs.History.{IsEntryOf, AreEntriesOf}
 
--- the bytes begin with no first line
+-- the bytes do not begin with a first line
 abbrev pub IsNoHistory : List ℕ → Type 0
 IsNoHistory bytes = (format : Format) (rest : List ℕ) → bytes ≢ head_line format ++ line_feed ++ rest
 
@@ -18,11 +18,11 @@ pub record Begins (format : Format) (entries : List Entry) (bytes rest : List �
   pub allowed : AreEntriesOf format entries
   pub spelled : bytes ≡ journal_text format entries ++ rest
 
--- the line is that of no entry which makes the version
+-- no entry with this version has the line
 abbrev pub IsNoEntryLine : Format → ℕ → List ℕ → Type 0
 IsNoEntryLine format version line = (e : Entry) → IsEntryOf format e → line ≢ entry_line version e
 
--- after the lines of some entries stands a whole line, line n, that is not the line of a next entry
+-- after the lines of some entries comes a complete line, line n, that is not the line of a next entry
 pub record HasOtherLine (bytes : List ℕ) (n : ℕ) : Type 0 where
   pub format : Format
   pub entries : List Entry
@@ -38,7 +38,7 @@ pub record HasBadLine (bytes : List ℕ) (n : ℕ) : Type 0 where
   pub stands : HasOtherLine bytes n
   pub no_end : stands.line ≢ end_line (length stands.entries)
 
--- after a whole text stands at least one byte more, in line n
+-- at least one byte, in line n, follows a whole text
 pub record HasMore (bytes : List ℕ) (n : ℕ) : Type 0 where
   pub format : Format
   pub entries : List Entry
@@ -47,7 +47,7 @@ pub record HasMore (bytes : List ℕ) (n : ℕ) : Type 0 where
   pub more : rest ≢ []
   pub number : n ≡ length entries + 3
 
--- after 65,536 entries stands the line of one more
+-- the line of one more entry follows 65,536 entries
 pub record IsTooLong (bytes : List ℕ) : Type 0 where
   pub format : Format
   pub entries : List Entry
@@ -57,7 +57,7 @@ pub record IsTooLong (bytes : List ℕ) : Type 0 where
   pub full : length entries ≡ MOST_ENTRIES
   pub has_line : IsEntryOf format next
 
--- after the lines of some entries stands no further line feed
+-- after the lines of some entries there is no line feed
 pub record HasNoEnd (bytes : List ℕ) : Type 0 where
   pub format : Format
   pub entries : List Entry
@@ -65,7 +65,7 @@ pub record HasNoEnd (bytes : List ℕ) : Type 0 where
   pub begins : Begins format entries bytes rest
   pub unended : HasNoLineFeed rest
 
--- the fault of the bytes; out of memory is none of theirs, and only `replay` finds bad changes
+-- the fault of the bytes; bytes do not determine out of memory, and only `replay` finds bad changes
 abbrev pub HasFault : List ℕ → ChronFault → Type 0
 HasFault bytes NotHistory = IsNoHistory bytes
 HasFault bytes (BadLine n) = HasBadLine bytes n ⊎ HasMore bytes n

@@ -1,4 +1,4 @@
--- Laws of the definitions: what they say together.
+-- Laws of the definitions.
 use Rattle.std.specs.Prelude.{◌≡◌, ◌≢◌, ◌⊎◌, ℕ, ◌≤◌, ◌<◌, List, [], ◌∷◌, ◌++◌, length, take, None}
 use Rattle.std.specs.List.{AllByRecursion}
 use mathlib.Core.List.{IsPrefix}
@@ -18,34 +18,34 @@ use Rattle.mud_chron.specs.History.{AreEntriesOf, SpellsHistory}
 use Rattle.mud_chron.specs.Faults.{HasFault}
 use Rattle.mud_chron.specs.Fronts.{Recovers, HasFrontFault}
 
--- a change that is legal in a sound world can be spelled, whichever desk made it
+-- a change that is legal in a sound world is spellable for every desk
 abbrev pub LegalIsSpellable : Type 0
 LegalIsSpellable =
     (w : State) (desk : ℕ) (change : Change) → IsSound w → refusal w change ≡ None → 1 ≤ desk → desk ≤ MOST_DESKS
     → IsSpellable desk change
 
--- bytes are the text of one list of entries at most, whatever the format
+-- bytes are the text of at most one list of entries, in either format
 abbrev pub SpellsOne : Type 0
 SpellsOne =
     (bytes : List ℕ) (entries others : List Entry) → SpellsHistory bytes entries → SpellsHistory bytes others
     → entries ≡ others
 
--- bytes have one fault at most
+-- bytes have at most one fault
 abbrev pub HasOneFault : Type 0
 HasOneFault = (bytes : List ℕ) (fault other : ChronFault) → HasFault bytes fault → HasFault bytes other → fault ≡ other
 
--- no byte of a history's text is a return
+-- the text of a history contains no carriage return
 abbrev pub HasNoReturns : Type 0
 HasNoReturns =
     (text : List ℕ) (entries : List Entry) → SpellsHistory text entries → AllByRecursion (λ b. b ≢ CR) text
 
--- bytes with a fault are the text of no entries
+-- bytes with a fault are not the text of any entries
 abbrev pub FaultsAreNoTexts : Type 0
 FaultsAreNoTexts =
     (bytes : List ℕ) (fault : ChronFault) (entries : List Entry) → HasFault bytes fault
     → SpellsHistory bytes entries → ⊥
 
--- what is written spells the same entries again, and no others
+-- a written text reads back as exactly its entries
 abbrev pub IsWrittenAgain : Type 0
 IsWrittenAgain =
     (entries others : List Entry) → AllByRecursion IsEntry entries → length entries ≤ MOST_ENTRIES
@@ -54,7 +54,7 @@ IsWrittenAgain =
 
 -- ---- journals
 
--- of the first n bytes of a journal these entries have whole lines, and keep is the length of their text, or nothing
+-- in the first n bytes of a journal these entries have complete lines, and keep is the length of their text, or 0
 pub record AreWhole (format : Format) (entries : List Entry) (n : ℕ)
     (found : Format) (got : List Entry) (keep : ℕ) : Type 0 where
   pub left_out : List Entry
@@ -65,14 +65,14 @@ pub record AreWhole (format : Format) (entries : List Entry) (n : ℕ)
   pub kept : (n < length (head_line format ++ line_feed)) × (got ≡ []) × (keep ≡ 0)
       ⊎ (found ≡ format) × (keep ≡ length (journal_text format got))
 
--- bytes with a fault are no journal that was cut at a byte
+-- bytes with a fault are not a prefix of any journal
 abbrev pub FaultsAreNoFronts : Type 0
 FaultsAreNoFronts =
     (bytes : List ℕ) (fault : ChronFault) → HasFrontFault bytes fault
     → (format : Format) (entries : List Entry) (n : ℕ) → AreEntriesOf format entries
     → bytes ≢ take n (journal_text format entries)
 
--- a journal that was cut after the text of what was synced: all that was synced is found, and only what was written
+-- a journal that was cut after its synced part: every synced entry is found, and only written entries are
 abbrev pub NothingIsLost : Type 0
 NothingIsLost =
     (format found : Format) (synced after got : List Entry) (n keep : ℕ) → AreEntriesOf format (synced ++ after)

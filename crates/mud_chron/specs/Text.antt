@@ -1,4 +1,4 @@
--- The text of a history: each value has one spelling, line by line.
+-- The text of a history: each value has exactly one spelling, line by line.
 use Rattle.std.specs.Prelude.{ℕ, ◌+◌, List, [], ◌∷◌, ◌++◌, length, codes}
 use Rattle.std.specs.List.{join_by}
 use Rattle.std.specs.Fmt.{decimal}
@@ -17,16 +17,16 @@ use Rattle.std.specs.Option.{option_map_or}
 abbrev pub line_feed : List ℕ
 line_feed = codes "\n"
 
--- the names, a comma between each two, in double quotes
+-- the names in double quotes, separated by commas
 abbrev pub in_quotes : List (List ℕ) → List ℕ
 in_quotes names = codes "\"" ++ join_by (λ name. name) (codes ",") names ++ codes "\""
 
--- where a dig leads: to a new room, or to an old one
+-- the target of a dig: a new room, or an existing one
 abbrev pub target_text : Target → List ℕ
 target_text (New names) = codes "new " ++ in_quotes names
 target_text (Old room) = codes "old " ++ number_text room
 
--- a deed of an actor, who is spelled first: its exits and the exit back where there are such
+-- a deed after its actor; a dig has its exits and the exit back, if there are any
 abbrev pub deed_text : List ℕ → Deed → List ℕ
 deed_text actor (Dig target doors) =
     codes "dig " ++ actor ++ codes " " ++ target_text target
@@ -48,12 +48,12 @@ deed_text actor (Recycle object) = codes "recycle " ++ actor ++ codes " " ++ num
 deed_text actor (Say text) = codes "say " ++ actor ++ codes " " ++ text
 deed_text actor (Emote text) = codes "emote " ++ actor ++ codes " " ++ text
 
--- the line of an entry, without its end: the version that it makes, the desk, and the change
+-- the line of an entry, without its end: its version, the desk, and the change
 unfoldable pub entry_line : ℕ → Entry → List ℕ
 entry_line version e =
     decimal version ++ codes " " ++ decimal e.desk ++ codes " " ++ deed_text (number_text e.change.actor) e.change.deed
 
--- the lines of entries, the first of which makes this version
+-- the lines of entries, the first with this version
 abbrev pub entries_text : ℕ → List Entry → List ℕ
 entries_text version [] = []
 entries_text version (e ∷ entries) = (entry_line version e ++ line_feed) ++ entries_text (version + 1) entries

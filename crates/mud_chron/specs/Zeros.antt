@@ -1,4 +1,4 @@
--- What stands before the zeros that a disk shows where nothing was written.
+-- The bytes before the zeros that a disk shows where nothing was written.
 use Rattle.std.specs.Prelude.{◌==◌, if◌then◌else◌, ℕ, List, [], ◌∷◌}
 
 -- the bytes before the first zero

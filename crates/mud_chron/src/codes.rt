@@ -1,4 +1,4 @@
-//! The bytes of a history's text that have a name (docs/HISTORY.md, "The text").
+//! Named bytes of a history's text (docs/HISTORY.md, "The text").
 
-/// The sign before and after names.
+/// The double quote, which encloses names.
 pub const QUOTE: u8 = 34;

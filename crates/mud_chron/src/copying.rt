@@ -70,7 +70,7 @@ fn copy_deed(alloc: Global, deed: &Deed) -> Result<Deed, AllocError>
     })
 }
 
-// An equal change.
+// Returns an equal change.
 pub(crate) fn copy_change(alloc: Global, change: &Change) -> Result<Change, AllocError>
     ensures { IfOk result (λ c. c ≡ change.now) }
 {

@@ -1,4 +1,4 @@
-//! An entry of a history.
+//! Entries of a history.
 
 ghost use Rattle.std.specs.Prelude.{◌≡◌, IfOk};
 ghost use Rattle.mud_chron.specs.Entry.{Entry, IsSpellable, IsEntry};
@@ -9,9 +9,9 @@ use mud_world::Change;
 use std::alloc::{AllocError, Global};
 use std::marker::Model;
 
-/// One accepted change, and the desk that made it. The text can spell it: the desk is 1 to 64, the numbers of objects
-/// are 0 to 8,191, a cost is 0 to 10,000, and a way to an old room has an exit (`IsEntry`). A contract sees the desk
-/// and the change.
+/// An accepted change, and the desk that made it. Every entry can be written as text (`IsEntry`): the desk is 1 to 64,
+/// object numbers are 0 to 8,191, and a cost is 0 to 10,000. A dig to an existing room has an exit. A contract sees the
+/// desk and the change.
 #[derive(Drop)]
 pub struct Entry {
     desk: u32,
@@ -33,18 +33,19 @@ impl Model for Entry {
 }
 
 impl Entry {
-    /// The entry of a change that the desk made. By the law [`legal_is_spellable`](crate::laws::legal_is_spellable) a
-    /// change that is legal in a sound world can be spelled for each desk from 1 to 64.
+    /// Returns the entry of a change that the desk made. By the law
+    /// [`legal_is_spellable`](crate::laws::legal_is_spellable), a change that is legal in a sound world is spellable
+    /// for each desk from 1 to 64.
     pub fn new(desk: u32, change: Change) -> Entry
         requires { IsSpellable desk change }
         ensures { result ≡ record { desk = desk; change = change } }
     {
-        // for the prover: its names, its key and its text keep the invariants of their types
+        // for the prover: the names, the key and the text keep the invariants of their types
         has_parts(&change);
         Entry { desk, change }
     }
 
-    /// The number of the desk, 1 to 64.
+    /// Returns the number of the desk, 1 to 64.
     pub fn desk(&self) -> u32
         ensures desk { result ≡ self.now.desk }
         ensures entry { IsEntry self.now }
@@ -52,7 +53,7 @@ impl Entry {
         self.desk
     }
 
-    /// The change.
+    /// Returns the change.
     pub fn change(&self) -> &Change
         ensures change { result.now ≡ self.now.change }
         ensures entry { IsEntry self.now }
@@ -60,7 +61,7 @@ impl Entry {
         &self.change
     }
 
-    /// An equal entry. The only error is out of memory.
+    /// Returns an equal entry. The only error is out of memory.
     pub fn copy(&self, alloc: Global) -> Result<Entry, AllocError>
         ensures { IfOk result (λ e. e ≡ self.now) }
     {

@@ -1,22 +1,22 @@
-//! Why there is no history.
+//! The faults of history texts and of replays.
 
 use std::alloc::{AllocError, AllocFailed};
 use thiserror::Error;
 
-/// Why bytes are no history, or a history can't be replayed (docs/HISTORY.md, "Faults"). Lines and entries are counted
-/// from 1.
+/// The reason why bytes are not a history, or a history can't be replayed (docs/HISTORY.md, "Faults"). Lines and
+/// entries are counted from 1.
 #[derive(PartialEq, Eq, Debug, Drop, Error)]
 pub enum ChronFault {
-    /// Memory ran out.
+    /// An allocation failed.
     #[error("out of memory")]
     OutOfMemory,
-    /// The bytes begin with neither first line.
+    /// The bytes do not begin with a first line.
     #[error("not a history")]
     NotHistory,
-    /// This line is neither that of the next entry nor the last line, or something stands after the last line.
+    /// This line is neither the line of the next entry nor the last line, or bytes follow the last line.
     #[error("line {0} is bad")]
     BadLine(usize),
-    /// The change of this entry isn't legal where it stands. Only `replay` answers it.
+    /// The change of this entry is illegal where it occurs. Only `replay` returns it.
     #[error("entry {0} isn't legal")]
     BadChange(usize),
     /// There are more than 65,536 entries.

@@ -1,5 +1,5 @@
-//! The fields of a line. What is found here counts only where it is spelled as the line
-//! (`line.rt`), so that a field may be found in more than its own spelling.
+//! Reads the fields of a line. The reader is lenient: a field may be found in more than its own spelling, because
+//! `line.rt` accepts an entry only if its line is exactly the given one.
 
 ghost use Rattle.std.specs.Prelude.{◌≡◌, ◌≢◌, ◌⊎◌, ◌≤◌, ◌<◌, IfOk};
 ghost use Rattle.mud_key.specs.declared.limits.TheConstants.{AMOUNTS};
@@ -12,15 +12,15 @@ use mud_key::{Key, KeyFault, Miss, Name, Namer, Names, NamesFault, read, resolve
 use mud_world::{LAST_NUMBER, Speech};
 use std::alloc::{AllocError, Global};
 
-// A number below this may take one more digit: it has nine then at most.
+// A number below this may get one more digit, and then has at most nine.
 const ROOM_FOR_A_DIGIT: u32 = 100_000_000;
 
-/// Why there is no entry.
+/// The reason why there is no entry.
 #[derive(Clone, Copy)]
 pub(crate) enum Unread {
-    /// Memory ran out.
+    /// An allocation failed.
     OutOfMemory,
-    /// The line is that of no entry.
+    /// No entry has this line.
     NoEntry,
 }
 
@@ -35,7 +35,7 @@ impl From<AllocError> for Unread {
     }
 }
 
-// What stands before the first such sign, and what stands after it.
+// Splits a text at the first occurrence of a sign, and returns both sides.
 pub(crate) fn cut(text: &str, sign: char) -> Result<(&str, &str), Unread>
     requires { sign < 128 }
     ensures { Tells (λ p. (p.0.now, p.1.now)) result (cut sign text.now) }
@@ -46,7 +46,7 @@ pub(crate) fn cut(text: &str, sign: char) -> Result<(&str, &str), Unread>
     }
 }
 
-// The number of at most nine digits.
+// Returns the number that at most nine digits denote.
 fn digits(text: &[u8]) -> Result<u32, Unread>
     ensures { Gives result (digits_on 0 text.now) }
 {
@@ -61,7 +61,7 @@ fn digits(text: &[u8]) -> Result<u32, Unread>
     Ok(number)
 }
 
-// The number, up to this one.
+// Returns the number if it is at most this one.
 fn number_up_to(text: &[u8], most: u32) -> Result<u32, Unread>
     ensures { Gives result (number_up_to most text.now) }
 {
@@ -73,7 +73,7 @@ fn number_up_to(text: &[u8], most: u32) -> Result<u32, Unread>
     }
 }
 
-// The number, up to this one.
+// Returns the number if it is at most this one.
 pub(crate) fn number(text: &str, most: u32) -> Result<u32, Unread>
     requires { most < AMOUNTS }
     ensures means { Gives result (number_up_to most text.now) }
@@ -82,7 +82,7 @@ pub(crate) fn number(text: &str, most: u32) -> Result<u32, Unread>
     number_up_to(text.as_bytes(), most)
 }
 
-// The number of an object.
+// Returns the number of an object.
 pub(crate) fn object(text: &str) -> Result<u32, Unread>
     ensures means { Gives result (object_in text.now) }
     ensures number { IfOk result IsNumber }
@@ -93,7 +93,7 @@ pub(crate) fn object(text: &str) -> Result<u32, Unread>
     }
 }
 
-// The number of an object up to a space, and what stands after it.
+// Returns the number of an object up to a space, and the text after the space.
 #[tactic(auto, unfolding(crate::specs::inner::Reader::object_before))]
 pub(crate) fn object_before(text: &str) -> Result<(u32, &str), Unread>
     ensures means { Tells (λ p. (p.0, p.1.now)) result (object_before text.now) }
@@ -103,7 +103,7 @@ pub(crate) fn object_before(text: &str) -> Result<(u32, &str), Unread>
     Ok((object(front)?, rest))
 }
 
-// The names of a names text.
+// Returns the names of a names text.
 pub(crate) fn names(alloc: Global, text: &str) -> Result<Names, Unread>
     ensures { Tells (λ x. x) result (names_in text.now) }
 {
@@ -114,7 +114,7 @@ pub(crate) fn names(alloc: Global, text: &str) -> Result<Names, Unread>
     }
 }
 
-// The name that a text is.
+// Returns the name that a text is.
 pub(crate) fn name(alloc: Global, text: &str) -> Result<Name, Unread>
     ensures { Tells (λ x. x) result (name_in text.now) }
 {
@@ -125,7 +125,7 @@ pub(crate) fn name(alloc: Global, text: &str) -> Result<Name, Unread>
     }
 }
 
-// What can be said.
+// Returns the text as a speech.
 #[tactic(auto, unfolding(crate::specs::inner::Reader::speech_in))]
 pub(crate) fn speech(alloc: Global, text: &str) -> Result<Speech, Unread>
     ensures { Tells (λ x. x) result (speech_in text.now) }
@@ -136,7 +136,7 @@ pub(crate) fn speech(alloc: Global, text: &str) -> Result<Speech, Unread>
     }
 }
 
-// The objects of a key by their numbers.
+// Resolves the objects of a key by their numbers.
 struct Numbers;
 
 impl Namer for Numbers {
@@ -154,7 +154,7 @@ impl Namer for Numbers {
     }
 }
 
-// Why no key was read or resolved.
+// Returns the reason why a key was not read or not resolved.
 fn why_none(fault: KeyFault) -> Unread
     ensures { (fault ≢ KeyFault.OutOfMemory) ⊎ (result ≡ Unread.OutOfMemory) }
 {
@@ -164,7 +164,7 @@ fn why_none(fault: KeyFault) -> Unread
     }
 }
 
-// The key whose objects are numbers.
+// Returns the key whose objects are numbers.
 #[tactic(auto, unfolding(crate::specs::inner::Reader::number_key_in))]
 pub(crate) fn key(alloc: Global, text: &str) -> Result<Key, Unread>
     ensures { Tells (λ x. x) result (number_key_in text.now) }

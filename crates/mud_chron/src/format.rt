@@ -1,4 +1,4 @@
-//! The formats of a history's text.
+//! Formats of a history's text.
 
 ghost use Rattle.std.specs.Prelude.{◌≡◌, ◌++◌};
 ghost use Rattle.mud_chron.specs.Text.{line_feed, head_line};
@@ -6,14 +6,14 @@ ghost use Rattle.mud_chron.specs.Text.{line_feed, head_line};
 /// The two formats of a history's text (docs/HISTORY.md, "Formats").
 #[derive(Clone, Copy, Debug, PartialEq, Eq)]
 pub enum Format {
-    /// `mud history 1`, in which no exit costs 0.
+    /// `mud history 1`, in which no exit costs 0. It is only read.
     One,
-    /// `mud history 2`, which is written.
+    /// `mud history 2`, the format that is written.
     Two,
 }
 
 impl Format {
-    /// The first line of a text in this format, with its end.
+    /// Returns the first line of a text in this format, with its line end.
     pub fn first_line(self) -> &'static str
         ensures { result.now ≡ head_line self ++ line_feed }
     {

@@ -1,4 +1,4 @@
-//! What is left of a journal that was cut at any byte.
+//! Recovers a journal that was cut at any byte.
 
 ghost use Rattle.std.specs.Prelude.{◌≢◌, IfOk, IfErr, MatchBool};
 ghost use mathlib.Core.List.{IsPrefix};
@@ -13,25 +13,25 @@ use crate::reading::{cut_line, format_of};
 use mud_world::limits::MOST_ENTRIES;
 use std::alloc::Global;
 
-/// What is found in a journal that was cut at any byte.
+/// The prefix recovered from a journal that was cut at any byte.
 #[derive(Drop)]
 pub struct Front {
-    /// The entries whose lines are whole, at most 65,536.
+    /// The entries with complete lines, at most 65,536.
     pub entries: Vec<Entry>,
-    /// The format by the first line; where that is not whole, format 2, in which journals are written.
+    /// The format that the first line names. If that line is incomplete, format 2, in which journals are written.
     pub format: Format,
-    /// How many bytes the first line and the lines of the entries take; 0 where the first line is not whole.
+    /// The number of bytes in the first line and the lines of the entries, or 0 if the first line is incomplete.
     pub keep: usize,
 }
 
-// Whether the bytes are the beginning of this text.
+// Returns whether the bytes are a prefix of this text.
 fn begins(bytes: &[u8], text: &[u8]) -> bool
     ensures { MatchBool result (IsPrefix bytes.now text.now) (¬ IsPrefix bytes.now text.now) }
 {
     text.starts_with(bytes)
 }
 
-// Whether the bytes begin a first line.
+// Returns whether the bytes are a prefix of a first line.
 fn begins_head(bytes: &[u8]) -> bool
     ensures { MatchBool result (BeginsHead bytes.now) (¬ BeginsHead bytes.now) }
 {
@@ -41,7 +41,7 @@ fn begins_head(bytes: &[u8]) -> bool
     begins(bytes, Format::Two.first_line().as_bytes())
 }
 
-// What is found in bytes that have no whole first line.
+// Returns the result for bytes without a complete first line.
 fn without_head(alloc: Global, bytes: &[u8]) -> Result<Front, ChronFault>
     requires { IsNoHistory bytes.now }
     ensures ok { IfOk result (λ f. Recovers bytes.now f.format f.entries.items f.keep) }
@@ -57,10 +57,10 @@ fn without_head(alloc: Global, bytes: &[u8]) -> Result<Front, ChronFault>
     })
 }
 
-/// What is found in a journal that was cut at any byte (docs/HISTORY.md, "Journals"). A journal is the text of a
-/// history, in either format, without its last line. A line that has not ended is dropped, whatever it holds. Any
-/// other bytes have a fault: `NotHistory`, `TooLong`, or `BadLine`, which the last line of a whole history is too.
-/// Else only out of memory is an error. Its time is linear in the bytes.
+/// Recovers the longest readable prefix of a journal that was cut at any byte (docs/HISTORY.md, "Journals"). A journal
+/// is the text of a history, in either format, without its last line. An incomplete last line is dropped, whatever it
+/// holds. Any other bytes have a fault: `NotHistory`, `TooLong` or `BadLine`. The last line of a whole history is a bad
+/// line here too. The only other error is out of memory. The time is linear in the bytes.
 pub fn read_front(alloc: Global, bytes: &[u8]) -> Result<Front, ChronFault>
     ensures ok { IfOk result (λ f. Recovers bytes.now f.format f.entries.items f.keep) }
     ensures fault { IfErr result (λ fault. fault ≢ ChronFault.OutOfMemory → HasFrontFault bytes.now fault) }

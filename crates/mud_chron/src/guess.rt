@@ -1,4 +1,4 @@
-//! The entry that may have a line.
+//! Guesses the entry whose line is given.
 
 ghost use Rattle.std.specs.Prelude.{◌≤◌, ◌<◌, Option, None, Some, IfOk};
 ghost use Rattle.mud_key.specs.declared.limits.TheConstants.{LAST_NUMBER};
@@ -16,7 +16,7 @@ use mud_key::{Name, Names};
 use mud_world::{Change, Deed, Doors, MOST_COST, Target};
 use std::alloc::Global;
 
-// The names between the first two quotes, and what stands after them.
+// Returns the names between the first two quotes, and the text after them.
 #[tactic(auto, unfolding(crate::specs::inner::Reader::quoted_in, crate::specs::inner::Reader::names_before))]
 fn names_between_quotes(alloc: Global, text: &str) -> Result<(Names, &str), Unread>
     ensures { Tells (λ p. (p.0, p.1.now)) result (quoted_in text.now) }
@@ -26,7 +26,7 @@ fn names_between_quotes(alloc: Global, text: &str) -> Result<(Names, &str), Unre
     Ok((names(alloc, inside)?, rest))
 }
 
-// The name between the first two quotes.
+// Returns the name between the first two quotes.
 #[tactic(auto, unfolding(crate::specs::inner::Reader::quoted_name_in))]
 fn quoted_name(alloc: Global, text: &str) -> Result<Name, Unread>
     ensures { Tells (λ x. x) result (quoted_name_in text.now) }
@@ -36,7 +36,7 @@ fn quoted_name(alloc: Global, text: &str) -> Result<Name, Unread>
     name(alloc, inside)
 }
 
-// The names of the exit back; none where nothing is left.
+// Returns the names of the exit back, or none if no text is left.
 #[tactic(auto, unfolding(crate::specs::inner::Reader::back_in))]
 fn back_of(alloc: Global, text: &str) -> Result<Option<Names>, Unread>
     ensures { Tells (λ x. x) result (back_in text.now) }
@@ -48,7 +48,7 @@ fn back_of(alloc: Global, text: &str) -> Result<Option<Names>, Unread>
     Ok(Some(names))
 }
 
-// The exits of a dig; none where nothing is left.
+// Returns the exits of a dig, or none if no text is left.
 #[tactic(auto, unfolding(crate::specs::inner::Reader::doors_in))]
 fn doors_of(alloc: Global, text: &str) -> Result<Option<Doors>, Unread>
     ensures { Tells (λ x. x) result (doors_in text.now) }
@@ -61,7 +61,7 @@ fn doors_of(alloc: Global, text: &str) -> Result<Option<Doors>, Unread>
     Ok(Some(Doors { out, back }))
 }
 
-// A dig of a new room.
+// Reads a dig of a new room.
 #[tactic(auto, unfolding(crate::specs::inner::Reader::new_in))]
 fn dig_new(alloc: Global, text: &str) -> Result<Deed, Unread>
     ensures means { Tells (λ x. x) result (new_in text.now) }
@@ -72,7 +72,7 @@ fn dig_new(alloc: Global, text: &str) -> Result<Deed, Unread>
     Ok(Deed::Dig(Target::New(names), doors))
 }
 
-// A way to an old room.
+// Reads a dig to an existing room.
 #[tactic(auto, unfolding(crate::specs::inner::Reader::old_in))]
 fn dig_old(alloc: Global, text: &str) -> Result<Deed, Unread>
     ensures means { Tells (λ x. x) result (old_in text.now) }
@@ -85,7 +85,7 @@ fn dig_old(alloc: Global, text: &str) -> Result<Deed, Unread>
     }
 }
 
-// A dig.
+// Reads a dig.
 #[tactic(auto, unfolding(crate::specs::inner::Reader::dig_in))]
 fn dig(alloc: Global, text: &str) -> Result<Deed, Unread>
     ensures means { Tells (λ x. x) result (dig_in text.now) }
@@ -99,7 +99,7 @@ fn dig(alloc: Global, text: &str) -> Result<Deed, Unread>
     }
 }
 
-// A thing that is made.
+// Reads a Make.
 #[tactic(auto, unfolding(crate::specs::inner::Reader::make_in))]
 fn make(alloc: Global, text: &str) -> Result<Deed, Unread>
     ensures means { Tells (λ x. x) result (make_in text.now) }
@@ -109,7 +109,7 @@ fn make(alloc: Global, text: &str) -> Result<Deed, Unread>
     Ok(Deed::Make(names))
 }
 
-// A new player.
+// Reads a new player.
 #[tactic(auto, unfolding(crate::specs::inner::Reader::player_in))]
 fn player(alloc: Global, text: &str) -> Result<Deed, Unread>
     ensures means { Tells (λ x. x) result (player_in text.now) }
@@ -118,7 +118,7 @@ fn player(alloc: Global, text: &str) -> Result<Deed, Unread>
     Ok(Deed::Player(quoted_name(alloc, text)?))
 }
 
-// A lock.
+// Reads a lock.
 #[tactic(auto, unfolding(crate::specs::inner::Reader::lock_in))]
 fn lock(alloc: Global, text: &str) -> Result<Deed, Unread>
     ensures means { Tells (λ x. x) result (lock_in text.now) }
@@ -129,7 +129,7 @@ fn lock(alloc: Global, text: &str) -> Result<Deed, Unread>
     Ok(Deed::Lock { object, key })
 }
 
-// An unlocking.
+// Reads an unlocking.
 #[tactic(auto, unfolding(crate::specs::inner::Reader::unlock_in))]
 fn unlock(text: &str) -> Result<Deed, Unread>
     ensures means { Tells (λ x. x) result (unlock_in text.now) }
@@ -139,7 +139,7 @@ fn unlock(text: &str) -> Result<Deed, Unread>
     Ok(Deed::Unlock { object })
 }
 
-// A move.
+// Reads a move.
 #[tactic(auto, unfolding(crate::specs::inner::Reader::move_in))]
 fn carry(text: &str) -> Result<Deed, Unread>
     ensures means { Tells (λ x. x) result (move_in text.now) }
@@ -150,7 +150,7 @@ fn carry(text: &str) -> Result<Deed, Unread>
     Ok(Deed::Move { thing, to })
 }
 
-// A walk.
+// Reads a walk.
 #[tactic(auto, unfolding(crate::specs::inner::Reader::walk_in))]
 fn walk(text: &str) -> Result<Deed, Unread>
     ensures means { Tells (λ x. x) result (walk_in text.now) }
@@ -160,7 +160,7 @@ fn walk(text: &str) -> Result<Deed, Unread>
     Ok(Deed::Walk { exit })
 }
 
-// A cost.
+// Reads a cost.
 #[tactic(auto, unfolding(crate::specs::inner::Reader::cost_in))]
 fn cost(text: &str) -> Result<Deed, Unread>
     ensures means { Tells (λ x. x) result (cost_in text.now) }
@@ -171,7 +171,7 @@ fn cost(text: &str) -> Result<Deed, Unread>
     Ok(Deed::Cost { exit, cost })
 }
 
-// New names.
+// Reads new names.
 #[tactic(auto, unfolding(crate::specs::inner::Reader::rename_in))]
 fn rename(alloc: Global, text: &str) -> Result<Deed, Unread>
     ensures means { Tells (λ x. x) result (rename_in text.now) }
@@ -182,7 +182,7 @@ fn rename(alloc: Global, text: &str) -> Result<Deed, Unread>
     Ok(Deed::Rename { object, names })
 }
 
-// A recycling.
+// Reads a recycling.
 #[tactic(auto, unfolding(crate::specs::inner::Reader::recycle_in))]
 fn recycle(text: &str) -> Result<Deed, Unread>
     ensures means { Tells (λ x. x) result (recycle_in text.now) }
@@ -192,7 +192,7 @@ fn recycle(text: &str) -> Result<Deed, Unread>
     Ok(Deed::Recycle { object })
 }
 
-// What is said.
+// Reads a speech.
 #[tactic(auto, unfolding(crate::specs::inner::Reader::say_in))]
 fn say(alloc: Global, text: &str) -> Result<Deed, Unread>
     ensures means { Tells (λ x. x) result (say_in text.now) }
@@ -201,7 +201,7 @@ fn say(alloc: Global, text: &str) -> Result<Deed, Unread>
     Ok(Deed::Say(speech(alloc, text)?))
 }
 
-// What is emoted.
+// Reads an emote.
 #[tactic(auto, unfolding(crate::specs::inner::Reader::emote_in))]
 fn emote(alloc: Global, text: &str) -> Result<Deed, Unread>
     ensures means { Tells (λ x. x) result (emote_in text.now) }
@@ -210,7 +210,7 @@ fn emote(alloc: Global, text: &str) -> Result<Deed, Unread>
     Ok(Deed::Emote(speech(alloc, text)?))
 }
 
-// The deed that stands after a verb.
+// Reads the deed after a verb.
 #[tactic(auto, unfolding(crate::specs::inner::Reader::deed_in))]
 fn deed_of(alloc: Global, verb: Verb, text: &str) -> Result<Deed, Unread>
     ensures means { Tells (λ x. x) result (deed_in verb text.now) }
@@ -232,7 +232,7 @@ fn deed_of(alloc: Global, verb: Verb, text: &str) -> Result<Deed, Unread>
     }
 }
 
-// The change of a text.
+// Reads a change.
 #[tactic(auto, unfolding(crate::specs::inner::Reader::change_in))]
 fn change_of(alloc: Global, text: &str) -> Result<Change, Unread>
     ensures means { Tells (λ x. x) result (change_in text.now) }
@@ -246,7 +246,7 @@ fn change_of(alloc: Global, text: &str) -> Result<Change, Unread>
     Ok(Change { actor, deed })
 }
 
-// A desk.
+// Reads a desk.
 #[tactic(auto, unfolding(crate::specs::inner::Reader::desk_in))]
 fn desk_of(text: &str) -> Result<u32, Unread>
     ensures means { Tells (λ x. x) result (desk_in text.now) }
@@ -261,7 +261,7 @@ fn desk_of(text: &str) -> Result<u32, Unread>
     }
 }
 
-// The entry of a line, whatever version it makes.
+// Reads the entry of a line, whatever its version.
 #[tactic(auto, unfolding(crate::specs::inner::Reader::entry_in))]
 pub(crate) fn guess(alloc: Global, line: &str) -> Result<Entry, Unread>
     ensures { Tells (λ x. x) result (entry_in line.now) }

@@ -1,4 +1,4 @@
-//! What is known of the definitions: each contract is a law, and its function does nothing.
+//! Laws of the definitions. Each contract is a law, and its function does nothing.
 
 ghost use Rattle.mud_chron.specs.Laws.{LegalIsSpellable, SpellsOne, HasOneFault, HasNoReturns, FaultsAreNoTexts};
 ghost use Rattle.mud_chron.specs.Laws.{AreWhole};
@@ -12,58 +12,58 @@ ghost use Rattle.mud_chron.specs.declared.limits.TheConstants.{MOST_DESKS};
 ghost use Rattle.mud_chron.specs.Entry.{Entry};
 ghost use Rattle.mud_chron.specs.declared.format.Format.{Format};
 
-/// A change that is legal in a sound world can be spelled, whichever desk made it.
+/// A change that is legal in a sound world is spellable for every desk.
 pub fn legal_is_spellable()
     ensures { LegalIsSpellable }
 {}
 
-/// Bytes are the text of one list of entries at most, whatever the format.
+/// Bytes are the text of at most one list of entries, in either format.
 pub fn one_history()
     ensures { SpellsOne }
 {}
 
-/// Bytes have one fault at most.
+/// Bytes have at most one fault.
 pub fn one_fault()
     ensures { HasOneFault }
 {}
 
-/// Bytes with a fault are the text of no entries.
+/// Bytes with a fault are not the text of any entries.
 pub fn no_text_with_a_fault()
     ensures { FaultsAreNoTexts }
 {}
 
-/// No text of a history has a return: each of its lines ends in a line feed only.
+/// The text of a history contains no carriage return: its lines end with a line feed only.
 pub fn no_returns()
     ensures { HasNoReturns }
 {}
 
-/// What is written spells the same entries again, and no others.
+/// A written text reads back as exactly its entries.
 pub fn again()
     ensures { IsWrittenAgain }
 {}
 
-/// Whatever byte a journal is cut at, all entries whose lines are whole are found, and no others.
+/// From a journal cut at any byte, recovery finds exactly the entries with complete lines.
 pub fn recovers_whole()
     ensures { (format found : Format) (entries got : List Entry) (n keep : ℕ) → AreEntriesOf format entries
         → Recovers (take n (journal_text format entries)) found got keep → AreWhole format entries n found got keep }
 {}
 
-/// Bytes with a fault are no journal that was cut at a byte.
+/// Bytes with a fault are not a prefix of any journal.
 pub fn no_front_with_a_fault()
     ensures { FaultsAreNoFronts }
 {}
 
-/// Of a journal that was cut after the text of what was synced all that was synced is found.
+/// From a journal that was cut after its synced part, recovery finds every synced entry.
 pub fn nothing_is_lost()
     ensures { NothingIsLost }
 {}
 
-/// The limit of the desks.
+/// Promises the greatest number of desks.
 pub fn limits()
     ensures most_desks { MOST_DESKS ≡ 64 }
 {}
 
-/// The byte that has a name is that of USASCII.
+/// Promises that the named byte has the value of US-ASCII.
 pub fn codes()
     ensures quote { QUOTE ≡ 34 }
 {}

@@ -1,24 +1,24 @@
-//! History texts: a world's accepted changes as a text, one line each.
+//! History texts: the accepted changes of a world as text, one line each.
 //!
-//! An [`Entry`] is one accepted change and the desk that made it. docs/HISTORY.md has the text in
-//! plain words, and specs/Text.antt as one spelling for each value.
+//! An [`Entry`] is an accepted change and the desk that made it. docs/HISTORY.md describes the text in plain words, and
+//! specs/Text.antt as one spelling for each value.
 //!
-//! | Calls | Answer |
+//! | Calls | Result |
 //! |---|---|
 //! | `write_entry`, `write_history` | append the line of an entry, or the text of a history |
-//! | `write_names` | append names in their quotes |
-//! | `read_history` | the entries of a text, or the fault of bytes that are none |
-//! | `read_front` | the entries whose lines are whole in a journal that was cut at any byte |
-//! | `replay` | the world of the entries, or the first whose change isn't legal |
+//! | `write_names` | append names in quotes |
+//! | `read_history` | the entries of a text, or the fault of other bytes |
+//! | `read_front` | the entries with complete lines in a journal that was cut at any byte |
+//! | `replay` | the world of the entries, or the first entry with an illegal change |
 //!
 //! ```text
 //! let entries = read_history(alloc, bytes)?;
 //! let world = replay(alloc, &entries)?;
 //! ```
 //!
-//! Proved is that what is written is the text, that exactly the texts are read, that the fault answered is that of the
-//! bytes, and that the world is that of the history. That bytes have one reading at most, or one fault, and that a
-//! journal loses nothing that was synced, are the contracts of [`laws`].
+//! Proved: the writers append exactly the text of the definition; the readers accept exactly such texts; a returned
+//! fault is the fault of the bytes; and `replay` returns the world of the history. The contracts of [`laws`] state that
+//! bytes have at most one reading, or one fault, and that recovery loses no synced entry.
 #![tactic(auto)]
 
 pub mod codes;

@@ -1,4 +1,4 @@
-//! The limits of a history.
+//! Limits of a history.
 
-/// The most desks of a history, which are numbered from 1 (docs/HISTORY.md, "Entries").
+/// The greatest number of desks of a history; they are numbered from 1 (docs/HISTORY.md, "Entries").
 pub const MOST_DESKS: u32 = 64;

@@ -1,4 +1,4 @@
-//! One line of a history.
+//! Classifies one line of a history.
 
 ghost use Rattle.std.specs.Prelude.{◌≡◌, ◌≤◌, ◌<◌, ◌^◌, ◌+◌, ◌↔◌, ℕ, true, IfOk, MatchOption, MatchBool};
 ghost use Rattle.mud_world.specs.declared.limits.TheConstants.{MOST_ENTRIES};
@@ -17,18 +17,18 @@ use crate::writing::{push_end, push_line};
 use mud_world::Deed;
 use std::alloc::{AllocError, Global};
 
-/// What a line is after the lines of some entries.
+/// The role of a line that follows the lines of some entries.
 #[derive(Drop)]
 pub(crate) enum Line {
-    /// That of the next entry.
+    /// The line of the next entry.
     Entry(Entry),
     /// The last line.
     End,
-    /// Neither.
+    /// Neither of these.
     Bad,
 }
 
-// Whether the deed has a line in the format.
+// Returns whether the deed has a line in the format.
 fn has_line(format: Format, deed: &Deed) -> bool
     ensures { MatchBool result (HasLine format deed.now) (¬ HasLine format deed.now) }
 {
@@ -38,7 +38,7 @@ fn has_line(format: Format, deed: &Deed) -> bool
     }
 }
 
-// The entry that may have the line, whatever is spelled there.
+// Returns the only entry that may have the line, without checking the spelling.
 fn candidate(alloc: Global, line: &[u8]) -> Result<Entry, Unread>
     ensures { (version : ℕ) (e : Entry) → version < 2 ^ 32 → IsEntry e → line.now ≡ entry_line version e
         → Finds (λ found. found ≡ e) result }
@@ -49,7 +49,7 @@ fn candidate(alloc: Global, line: &[u8]) -> Result<Entry, Unread>
     }
 }
 
-// Whether the entry has this line.
+// Returns whether the entry has this line.
 fn is_line_of(alloc: Global, version: u32, entry: &Entry, line: &[u8]) -> Result<bool, AllocError>
     ensures { IfOk result (λ b. (b ≡ true) ↔ (line.now ≡ entry_line version entry.now)) }
 {
@@ -58,7 +58,7 @@ fn is_line_of(alloc: Global, version: u32, entry: &Entry, line: &[u8]) -> Result
     Ok(text.as_bytes() == line)
 }
 
-// Whether the entry has this line in the format.
+// Returns whether the entry has this line in the format.
 fn is_allowed_line(
     alloc: Global,
     format: Format,
@@ -73,7 +73,7 @@ fn is_allowed_line(
     Ok(is_allowed && is_line_of(alloc, version, entry, line)?)
 }
 
-// The entry of the line, where it is that of one which makes the version.
+// Returns the entry with this line and version.
 fn entry_of(
     alloc: Global,
     format: Format,
@@ -94,7 +94,7 @@ fn entry_of(
     }
 }
 
-// Whether it is the last line after this many entries.
+// Returns whether it is the last line after this many entries.
 fn is_end(alloc: Global, count: usize, line: &[u8]) -> Result<bool, AllocError>
     requires { count ≤ MOST_ENTRIES }
     ensures { IfOk result (λ b. (b ≡ true) ↔ (line.now ≡ end_line count)) }
@@ -104,7 +104,7 @@ fn is_end(alloc: Global, count: usize, line: &[u8]) -> Result<bool, AllocError>
     Ok(text.as_bytes() == line)
 }
 
-// What the line is after this many entries.
+// Returns the role of the line after this many entries.
 pub(crate) fn line_of(
     alloc: Global,
     format: Format,

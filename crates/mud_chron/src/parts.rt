@@ -1,4 +1,4 @@
-//! What the types of a change's parts keep, for the prover: the calls say it, and what they give is not used.
+//! Tells the prover the invariants of a change's parts. The results of the calls are not used.
 
 ghost use Rattle.mud_chron.specs.Entry.{HasParts, IsTarget};
 ghost use Rattle.mud_world.specs.inner.Fields.{AreDoors, AreBackNames};
@@ -6,7 +6,7 @@ ghost use Rattle.mud_world.specs.inner.Fields.{AreDoors, AreBackNames};
 use mud_key::Names;
 use mud_world::{Change, Deed, Doors, Target};
 
-// What is true of the names of an exit back.
+// Tells the prover about the names of an exit back.
 fn has_back_names(back: &Option<Names>)
     ensures { AreBackNames back.now }
 {
@@ -15,7 +15,7 @@ fn has_back_names(back: &Option<Names>)
     }
 }
 
-// What is true of the names of exits.
+// Tells the prover about the names of exits.
 fn has_doors(doors: &Option<Doors>)
     ensures { AreDoors doors.now }
 {
@@ -25,7 +25,7 @@ fn has_doors(doors: &Option<Doors>)
     }
 }
 
-// What is true of where a dig leads.
+// Tells the prover about the target of a dig.
 fn has_target(target: &Target)
     ensures { IsTarget target.now }
 {
@@ -34,7 +34,7 @@ fn has_target(target: &Target)
     }
 }
 
-// What is true of the names, the key and the text of a change.
+// Tells the prover about the names, the key and the text of a change.
 pub(crate) fn has_parts(change: &Change)
     ensures { HasParts change.now.deed }
 {

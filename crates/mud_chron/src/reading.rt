@@ -1,4 +1,4 @@
-//! The entries of a history's text.
+//! Reads the text of a history.
 
 ghost use Rattle.std.specs.Prelude.{◌≡◌, ◌≢◌, ◌++◌, IfOk, IfErr, MatchOption};
 ghost use Rattle.mud_chron.specs.Text.{line_feed, head_line};
@@ -15,7 +15,7 @@ use mud_key::codes::LF;
 use mud_world::limits::MOST_ENTRIES;
 use std::alloc::Global;
 
-// The first line without its end, and what stands after it.
+// Returns the first line without its end, and the bytes after it.
 pub(crate) fn cut_line(bytes: &[u8]) -> Option<(&[u8], &[u8])>
     ensures { MatchOption result (HasNoLineFeed bytes.now)
         (λ p. HasNoLineFeed p.0.now × (bytes.now ≡ p.0.now ++ line_feed ++ p.1.now)) }
@@ -27,7 +27,7 @@ pub(crate) fn cut_line(bytes: &[u8]) -> Option<(&[u8], &[u8])>
     Some((line, &ended[1..]))
 }
 
-// The format by the first line, and what stands after it.
+// Returns the format that the first line names, and the bytes after it.
 pub(crate) fn format_of(bytes: &[u8]) -> Option<(Format, &[u8])>
     ensures { MatchOption result (IsNoHistory bytes.now)
         (λ p. bytes.now ≡ head_line p.0 ++ line_feed ++ p.1.now) }
@@ -41,9 +41,9 @@ pub(crate) fn format_of(bytes: &[u8]) -> Option<(Format, &[u8])>
     }
 }
 
-/// The entries of a history's text, in either format (docs/HISTORY.md). Exactly the texts of histories are read. Any
-/// other bytes have one fault, which is answered. Else the only error is out of memory. Its time is linear in the
-/// bytes.
+/// Reads the entries of a history's text, in either format (docs/HISTORY.md). It accepts exactly the texts of
+/// histories. Any other bytes have exactly one fault, and it is returned. The only other error is out of memory. The
+/// time is linear in the bytes.
 pub fn read_history(alloc: Global, bytes: &[u8]) -> Result<Vec<Entry>, ChronFault>
     ensures ok { IfOk result (λ entries. SpellsHistory bytes.now entries.items) }
     ensures err { IfErr result (λ fault. fault ≢ ChronFault.OutOfMemory → HasFault bytes.now fault) }

@@ -1,4 +1,4 @@
-//! The world of a history.
+//! Replays a history.
 
 ghost use Rattle.std.specs.Prelude.{◌≡◌, IfOk, IfErr};
 ghost use Rattle.mud_world.specs.History.{world_of};
@@ -9,9 +9,8 @@ use crate::fault::ChronFault;
 use mud_world::World;
 use std::alloc::Global;
 
-/// The world that the entries' changes make of the opening, one after the other. Where one of them
-/// isn't legal where it stands, the first such is `BadChange`, and there is no world
-/// (docs/HISTORY.md, "Replay"). Else the only error is out of memory.
+/// Applies the changes of the entries to the initial world, in order. `BadChange` names the first entry whose change is
+/// illegal where it occurs (docs/HISTORY.md, "Replay"). The only other error is out of memory.
 pub fn replay(alloc: Global, entries: &[Entry]) -> Result<World, ChronFault>
     ensures legal { IfOk result (λ w. AreLegal (changes_of entries.now)) }
     ensures world { IfOk result (λ w. w ≡ world_of (changes_of entries.now)) }

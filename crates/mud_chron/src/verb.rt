@@ -1,10 +1,10 @@
-//! The words of a history's lines.
+//! The verbs of a history's lines.
 
 ghost use Rattle.mud_chron.specs.inner.Reader.{Tells, verb_in};
 
 use crate::fields::Unread;
 
-/// What a line tells, by its word.
+/// A kind of change, as named in a line.
 #[derive(Clone, Copy)]
 pub(crate) enum Verb {
     Dig,
@@ -21,7 +21,7 @@ pub(crate) enum Verb {
     Emote,
 }
 
-// The verb of a word.
+// Returns the verb that a word names.
 #[tactic(auto, unfolding(crate::specs::inner::Reader::verb_in))]
 pub(crate) fn verb_of(word: &str) -> Result<Verb, Unread>
     ensures { Tells (λ x. x) result (verb_in word.now) }

@@ -1,4 +1,4 @@
-//! The text of entries, and of a history.
+//! Writes entries and histories as text.
 
 ghost use Rattle.std.specs.Prelude.{◌≡◌, ◌≤◌, ◌+◌, ◌<◌, ◌++◌, [], ◌∷◌, codes, length, map, OnOk};
 ghost use Rattle.std.specs.Prelude.{OnErr, string_bytes};
@@ -198,7 +198,7 @@ fn push_deed(alloc: Global, out: &mut String, actor: u32, deed: &Deed) -> Result
     }
 }
 
-// The line of the entry, without its end.
+// Returns the line of the entry, without its end.
 #[tactic(auto, unfolding(crate::specs::Text::entry_line))]
 pub(crate) fn push_line(
     alloc: Global,
@@ -216,8 +216,8 @@ pub(crate) fn push_line(
     push_deed(alloc, out, change.actor, &change.deed)
 }
 
-/// Appends names as a history has them: between double quotes, with a comma between each two (docs/HISTORY.md,
-/// "Entries"). The only error is out of memory, and then the text is as it was.
+/// Appends names as a history has them: in double quotes, separated by commas (docs/HISTORY.md, "Entries"). The only
+/// error is out of memory, and it leaves the text unchanged.
 pub fn write_names(alloc: Global, names: &Names, out: &mut String) -> Result<(), AllocError>
     ensures ok { OnOk result (string_bytes out.new ≡ string_bytes out.old ++ in_quotes names.now) }
     ensures err { OnErr result (string_bytes out.new ≡ string_bytes out.old) }
@@ -227,9 +227,8 @@ pub fn write_names(alloc: Global, names: &Names, out: &mut String) -> Result<(),
     out.push_str(text.as_str())
 }
 
-/// Appends the line of the entry, with its end: the version that its change makes, 1 to 65,536,
-/// the desk, and the change (docs/HISTORY.md, "Entries"). The only error is out of memory, and then the text is as it
-/// was.
+/// Appends the line of the entry with its line end: the version that its change makes, 1 to 65,536, the desk, and the
+/// change (docs/HISTORY.md, "Entries"). The only error is out of memory, and it leaves the text unchanged.
 pub fn write_entry(
     alloc: Global,
     version: u32,
@@ -248,7 +247,7 @@ pub fn write_entry(
     out.push_str(text.as_str())
 }
 
-// The lines of entries, the first of which makes version 1.
+// Appends the lines of entries, the first with version 1.
 fn push_entries(alloc: Global, entries: &[Entry], out: &mut String) -> Result<(), AllocError>
     requires { length entries.now ≤ MOST_ENTRIES }
     ensures { OnOk result (string_bytes out.new ≡ string_bytes out.old ++ entries_text 1 entries.now) }
@@ -262,7 +261,7 @@ fn push_entries(alloc: Global, entries: &[Entry], out: &mut String) -> Result<()
     Ok(())
 }
 
-// The last line after this many entries, without its end.
+// Returns the last line after this many entries, without its end.
 #[tactic(auto, unfolding(crate::specs::Text::end_line))]
 pub(crate) fn push_end(out: &mut String, count: usize) -> Result<(), AllocError>
     requires { count ≤ MOST_ENTRIES }
@@ -272,8 +271,8 @@ pub(crate) fn push_end(out: &mut String, count: usize) -> Result<(), AllocError>
     push_decimal(out, count as u32)
 }
 
-/// Appends the text of the history of these entries, at most 65,536, in format 2
-/// (docs/HISTORY.md). The only error is out of memory, and then the text is as it was.
+/// Appends the text of the history of these entries, at most 65,536, in format 2 (docs/HISTORY.md). The only error is
+/// out of memory, and it leaves the text unchanged.
 pub fn write_history(alloc: Global, entries: &[Entry], out: &mut String) -> Result<(), AllocError>
     requires { length entries.now ≤ MOST_ENTRIES }
     ensures ok { OnOk result (string_bytes out.new ≡ string_bytes out.old ++ history_text Two entries.now) }

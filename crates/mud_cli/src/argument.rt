@@ -1,32 +1,32 @@
-//! The arguments of a command line, as rows.
+//! Tables of the arguments of a command line.
 
 use crate::limits::{MOST_CAPACITY, MOST_WORKERS};
 use clap::builder::ValueParser;
 use clap::{Arg, ArgAction};
 use std::alloc::{AllocError, Global};
 
-// An argument: an option, or a file by its place.
+// An argument: an option, or a positional file.
 #[derive(Clone, Copy)]
 pub(crate) struct Argument<'a> {
     pub(crate) name: &'a str,
-    // Whether it is an option.
+    // True for an option, false for a positional argument.
     pub(crate) is_option: bool,
-    // What is done where it is there.
+    // The action of `clap` when the argument is present.
     pub(crate) action: ArgAction,
-    // What help calls the value of an option, if it takes one.
+    // The name of the option's value in the help text, if it has a value.
     pub(crate) value: &'a [&'a str],
-    // What a value has to be.
+    // The parser of the value.
     pub(crate) parser: ValueParser<'a>,
-    // Whether it has to be there.
+    // True if the argument must be present.
     pub(crate) is_required: bool,
-    // The value that it has where it is left out, if it has one then.
+    // The default value, if there is one.
     pub(crate) default: &'a [&'a str],
-    // The options that have to be there too where it is.
+    // The options that must be present whenever this one is.
     pub(crate) beside: &'a [&'a str],
     pub(crate) help: &'a str,
 }
 
-// A file by its place, which may be left out.
+// An optional positional file.
 pub(crate) const PLACE: Argument = Argument {
     name: "",
     is_option: false,
@@ -39,27 +39,27 @@ pub(crate) const PLACE: Argument = Argument {
     help: "",
 };
 
-// An option that takes a text, and may be left out.
+// An optional option that takes a text.
 pub(crate) const OPTION: Argument = Argument {
     is_option: true,
     ..PLACE
 };
 
-// An option that is there or not.
+// A flag without a value.
 pub(crate) const FLAG: Argument = Argument {
     action: ArgAction::SetTrue,
     parser: ValueParser::Bool,
     ..OPTION
 };
 
-// An option that takes a number of 32 bits.
+// An option that takes a 32-bit number.
 pub(crate) const NUMBER: Argument = Argument {
     value: &["N"],
     parser: ValueParser::Signed(0, 4_294_967_295),
     ..OPTION
 };
 
-// How many workers answer a question.
+// The number of workers that answer a question.
 pub(crate) const WORKERS: Argument = Argument {
     name: "workers",
     parser: ValueParser::Signed(0, MOST_WORKERS as i64),
@@ -68,7 +68,7 @@ pub(crate) const WORKERS: Argument = Argument {
     ..NUMBER
 };
 
-// How many changes a history holds.
+// The number of changes that a history can hold.
 pub(crate) const CAPACITY: Argument = Argument {
     name: "capacity",
     parser: ValueParser::Signed(1, MOST_CAPACITY as i64),
@@ -77,7 +77,7 @@ pub(crate) const CAPACITY: Argument = Argument {
     ..NUMBER
 };
 
-// The history that a hall goes on from.
+// The history that a hall continues.
 pub(crate) const LOAD: Argument = Argument {
     name: "load",
     value: &["FILE"],
@@ -85,7 +85,7 @@ pub(crate) const LOAD: Argument = Argument {
     ..OPTION
 };
 
-// The argument of a row, as `clap` has it.
+// Returns the `clap` argument of a row.
 pub(crate) fn arg_of<'a>(alloc: Global, argument: &Argument<'a>) -> Result<Arg<'a>, AllocError> {
     let mut arg = Arg::new(alloc, argument.name).action(argument.action);
     if argument.is_option {

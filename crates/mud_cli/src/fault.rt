@@ -1,4 +1,4 @@
-//! Why a command line asks for nothing.
+//! The reasons why a program has no task after its command line was read.
 
 ghost use Rattle.std.specs.Prelude.{◌≡◌};
 ghost use Rattle.clap.specs.Values.{kind_of};
@@ -10,21 +10,21 @@ use std::alloc::Global;
 use std::io::Eprint;
 use thiserror::Error;
 
-/// Why the words of a command line ask for nothing.
+/// The reason why the words of a command line give a program no task.
 #[derive(Debug, Drop, Error)]
 pub enum CommandFault {
-    /// Memory ran out.
+    /// An allocation failed.
     #[error("out of memory")]
     OutOfMemory,
-    /// What is wrong with the words, in whole lines.
+    /// The words are wrong. The text says how, in whole lines.
     #[error("{0}")]
     Told(String),
-    /// Help or the version, for which the words ask, in whole lines.
+    /// The words ask for help or for the version. The text is the help or the version, in whole lines.
     #[error("{0}")]
     Asked(String),
 }
 
-// What `clap` says, as a fault: a text for standard output was asked for.
+// Returns an error of `clap` as a fault. Text for standard output means that help or the version was asked for.
 pub(crate) fn fault_of_error(alloc: Global, error: &Error) -> CommandFault
     ensures memory { kind_of error.now ≡ ErrorKind.OutOfMemory → result ≡ CommandFault.OutOfMemory }
     ensures kind { IsOfKind (kind_of error.now) result }
@@ -39,8 +39,8 @@ pub(crate) fn fault_of_error(alloc: Global, error: &Error) -> CommandFault
     }
 }
 
-/// Writes the text of a fault to standard error, where that can be written, and answers the status of a command line
-/// that asks for nothing, which is 2.
+/// Writes the text of a fault to standard error, ignoring a failed write. Returns 2, the exit status of a wrong command
+/// line.
 pub fn show<R: Eprint>(rt: &R, text: &str) -> u8
     ensures { result ≡ 2 }
 {

@@ -1,11 +1,12 @@
-//! The forms of a command line, as rows.
+//! Tables of the forms of a command line.
 
 use crate::argument::{Argument, arg_of};
 use crate::build::VERSION;
 use clap::Command;
 use std::alloc::{AllocError, Global};
 
-// A form of a command line: its name, what help says of it, and its arguments in the order in which help tells them.
+// A form of a command line: its name, its description in the help text, and its arguments in the order of the help
+// text.
 #[derive(Clone, Copy)]
 pub(crate) struct Form<'a> {
     pub(crate) name: &'a str,
@@ -13,7 +14,7 @@ pub(crate) struct Form<'a> {
     pub(crate) arguments: &'a [Argument<'a>],
 }
 
-// The command of a form.
+// Returns the `clap` command of a form.
 pub(crate) fn command_of<'a>(alloc: Global, form: &Form<'a>) -> Result<Command<'a>, AllocError> {
     let mut args = Vec::new(alloc);
     for argument in form.arguments {
@@ -22,7 +23,7 @@ pub(crate) fn command_of<'a>(alloc: Global, form: &Form<'a>) -> Result<Command<'
     Command::new(alloc, form.name).about(form.about).args(args)
 }
 
-// The command of a program that takes one of these forms.
+// Returns the `clap` command of a program that has these forms.
 pub(crate) fn program_of<'a>(
     alloc: Global,
     name: &'a str,

@@ -8,12 +8,12 @@ use clap::error::ErrorKind;
 use clap::{ArgMatches, Command};
 use std::alloc::{AllocError, Global};
 
-/// What the keeper of a world wishes of a file; `-` is standard input.
+/// A text that `mud_keep` makes from a file.
 #[derive(Clone, Copy)]
 pub enum Wish {
     /// The history that a journal holds.
     Recover,
-    /// The history of the longest front of a damaged journal.
+    /// The history of the longest readable prefix of a damaged journal.
     Front,
     /// A shorter history of the same world.
     Shorten,
@@ -21,31 +21,31 @@ pub enum Wish {
     Show,
 }
 
-/// A file, and what it is taken for.
+/// An input file, and how it is read.
 #[derive(Clone, Copy)]
 pub struct KeptFile<'a> {
-    /// Its name; `-` is standard input.
+    /// The name of the file; `-` is standard input.
     pub name: &'a str,
-    /// Whether it is a journal, and no history.
+    /// True if the file is a journal, false if it is a history.
     pub is_journal: bool,
 }
 
-/// What `mud_keep` is asked for.
+/// The task of `mud_keep`.
 #[derive(Clone, Copy)]
 pub enum Keeping<'a> {
-    /// A text of this file.
+    /// Make a text from this file.
     Text {
         wish: Wish,
         file: KeptFile<'a>,
     },
-    /// The rooms and exits as a graph, with the certificate of the second file drawn in, if one is named.
+    /// Draw the rooms and exits as a graph. If a second file is named, draw its certificate in the graph.
     Map {
         file: KeptFile<'a>,
         proof: Option<&'a str>,
     },
 }
 
-// The text that is wished by this form.
+// Returns the text that this form asks for.
 fn wish_in(name: &str, words: &ArgMatches<'_>) -> Option<Wish> {
     match name {
         "recover" if words.get_flag("front") => Some(Wish::Front),
@@ -56,7 +56,7 @@ fn wish_in(name: &str, words: &ArgMatches<'_>) -> Option<Wish> {
     }
 }
 
-// The file that was named by this form.
+// Returns the file that this form names.
 fn file_in<'a>(name: &str, words: &ArgMatches<'a>) -> Option<KeptFile<'a>> {
     Some(KeptFile {
         name: words.get_str("FILE")?,
@@ -64,7 +64,7 @@ fn file_in<'a>(name: &str, words: &ArgMatches<'a>) -> Option<KeptFile<'a>> {
     })
 }
 
-/// What the words of `mud_keep` ask for; the first is the program's name.
+/// Reads the words of `mud_keep`. The first word is the program's name.
 pub fn keeping_of<'a>(alloc: Global, words: &'a [String]) -> Result<Keeping<'a>, CommandFault> {
     let mut command = command(alloc).map_err(|_| CommandFault::OutOfMemory)?;
     let matches = matches_of(alloc, &mut command, words)?;
@@ -77,7 +77,7 @@ pub fn keeping_of<'a>(alloc: Global, words: &'a [String]) -> Result<Keeping<'a>,
     }
 }
 
-// What was named.
+// Returns the task that the matched words name.
 fn keeping_in<'a>(matches: &ArgMatches<'a>) -> Option<Keeping<'a>> {
     let name = matches.subcommand_name()?;
     let words = matches.subcommand_matches(name)?;
@@ -90,13 +90,13 @@ fn keeping_in<'a>(matches: &ArgMatches<'a>) -> Option<Keeping<'a>> {
     Some(Keeping::Text { wish, file })
 }
 
-// The command line that is understood.
+// Builds the `clap` command.
 fn command<'a>(alloc: Global) -> Result<Command<'a>, AllocError> {
     let about = "Recovers, shortens, shows and draws the history of a world";
     program_of(alloc, "mud_keep", about, &FORMS)
 }
 
-// What can be asked for.
+// The forms of `mud_keep`.
 static FORMS: [Form<'static>; 4] = [
     Form {
         name: "recover",
@@ -120,7 +120,7 @@ static FORMS: [Form<'static>; 4] = [
     },
 ];
 
-// What is kept.
+// The file to read.
 const FILE: Argument = Argument {
     name: "FILE",
     is_required: true,
@@ -128,27 +128,27 @@ const FILE: Argument = Argument {
     ..PLACE
 };
 
-// What is recovered.
+// The file to recover.
 const RECOVERED: Argument = Argument {
     help: "The file of a journal; - is standard input",
     ..FILE
 };
 
-// That what is kept is a journal.
+// Says that the file is a journal.
 const JOURNAL: Argument = Argument {
     name: "journal",
     help: "FILE is a journal: it has no last line, and its end may be torn",
     ..FLAG
 };
 
-// That the journal is damaged.
+// Says that the journal is damaged.
 const FRONT: Argument = Argument {
     name: "front",
     help: "Only the lines before the first bad one, where the journal is damaged",
     ..FLAG
 };
 
-// The certificate that is drawn in.
+// The certificate to draw in the graph.
 const PROOF: Argument = Argument {
     name: "PROOF",
     help: "The file of a certificate that is drawn in",

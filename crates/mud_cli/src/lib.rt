@@ -1,8 +1,8 @@
-//! The command lines of the programs: what their words ask for.
+//! The command lines of the programs.
 //!
-//! A program takes its words by `words_of`, and what they ask for by a function of its own: `service_of` for
-//! `mud_serve`, `sources_of` for `mud_check`, `task_of` for `mud_explain`, `keeping_of` for `mud_keep`. Where the words
-//! ask for nothing, or for help or the version, the fault has the text to be shown.
+//! A program gets its words from `words_of`, and reads its task from them with one function: `service_of` for
+//! `mud_serve`, `sources_of` for `mud_check`, `task_of` for `mud_explain`, and `keeping_of` for `mud_keep`. If the
+//! words are wrong, or ask for help or the version, the fault has the text to show.
 #![tactic(auto)]
 
 mod argument;

@@ -1,32 +1,32 @@
-//! Numbers that several command lines have in common.
+//! Limits that several command lines share.
 
 ghost use Rattle.std.specs.Prelude.{IfSome};
 ghost use Rattle.mud_cli.specs.Service.{AreWithin};
 
 use clap::ArgMatches;
 
-/// The most changes that a history can be asked to hold: as many as its text may have (docs/HISTORY.md).
+/// The greatest capacity of a history: the greatest number of changes in a history's text (docs/HISTORY.md).
 pub const MOST_CAPACITY: u32 = 65_536;
 
-/// The most workers that can be asked for (docs/SERVER.md).
+/// The greatest number of workers (docs/SERVER.md).
 pub const MOST_WORKERS: u32 = 8;
 
-/// The most sessions after which a server can be asked to end (docs/SERVER.md).
+/// The greatest value of `--total`, the number of sessions after which a server ends (docs/SERVER.md).
 pub const MOST_TOTAL: u32 = 65_536;
 
-/// The most sessions of one address at once that can be asked for: as many as there are places (docs/SERVER.md).
+/// The greatest value of `--per-address`: the number of places for sessions (docs/SERVER.md).
 pub const MOST_PER_ADDRESS: u32 = 64;
 
-/// How many workers a service has, and how many changes its history holds.
+/// The number of workers of a service, and the capacity of its history.
 #[derive(Clone, Copy)]
 pub struct ChosenLimits {
-    /// How many workers answer a question, 0 to 8.
+    /// The number of workers that answer a question, 0 to 8.
     pub workers: u32,
-    /// How many changes the history holds at most, 1 to 65,536.
+    /// The greatest number of changes in the history, 1 to 65,536.
     pub capacity: u32,
 }
 
-// The numbers that were read, if each is within its range.
+// Returns the numbers that were read, if each is within its range.
 pub(crate) fn limits_in(matches: &ArgMatches) -> Option<ChosenLimits>
     ensures { IfSome result AreWithin }
 {

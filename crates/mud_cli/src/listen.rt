@@ -4,7 +4,7 @@ use crate::argument::{Argument, CAPACITY, FLAG, LOAD, NUMBER, OPTION, WORKERS};
 use crate::limits::{MOST_PER_ADDRESS, MOST_TOTAL};
 use clap::builder::ValueParser;
 
-// The options, in the order in which help tells them.
+// The options, in the order of the help text.
 pub(crate) const LISTEN: [Argument; 15] = [
     Argument {
         name: "port",
@@ -80,10 +80,10 @@ pub(crate) const LISTEN: [Argument; 15] = [
     CAPACITY,
 ];
 
-// The last port (RFC 9293: 16 bits).
+// The greatest port number (RFC 9293: 16 bits).
 const LAST_PORT: i64 = 65_535;
 
-// A port.
+// A port number.
 const PORT: Argument = Argument {
     parser: ValueParser::Signed(0, LAST_PORT),
     ..NUMBER
@@ -95,7 +95,7 @@ const ADDRESS: Argument = Argument {
     ..OPTION
 };
 
-// A limit; 0 is none.
+// A limit; 0 means no limit.
 const LIMIT: Argument = Argument {
     default: &["0"],
     ..NUMBER

@@ -1,11 +1,11 @@
-//! What `clap` reads in the words.
+//! Runs `clap` over the words.
 
 use crate::fault::{CommandFault, fault_of_error};
 use clap::error::ErrorKind;
 use clap::{ArgMatches, Command};
 use std::alloc::Global;
 
-// What a command line reads in the words.
+// Matches the words against a command.
 pub(crate) fn matches_of<'a>(
     alloc: Global,
     command: &mut Command<'a>,
@@ -16,7 +16,7 @@ pub(crate) fn matches_of<'a>(
         .map_err(|error| fault_of_error(alloc, &error))
 }
 
-// What is told of words that were read and still ask for nothing.
+// Returns the message for words that `clap` accepts and the program does not.
 pub(crate) fn unfit(
     alloc: Global,
     command: &mut Command<'_>,

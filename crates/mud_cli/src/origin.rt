@@ -1,13 +1,13 @@
-//! The origin of a page.
+//! The form of a web origin.
 
-// Whether each byte may stand in a host as a browser writes it: a letter is small then.
+// Returns whether each byte is one that a browser writes in a host name. Letters are lower case.
 fn is_host(text: &str) -> bool {
     text.as_bytes().iter().all(
         |byte| matches!(*byte, b'a'..=b'z' | b'0'..=b'9' | b'.' | b'-' | b'_' | b'[' | b']' | b':'),
     )
 }
 
-// Whether this is a port that a browser writes after a host: it leaves out the scheme's own.
+// Returns whether the text is a port as a browser writes it. A browser leaves out the default port of the scheme.
 fn is_port(text: &str, own: u16) -> bool {
     match text.parse::<u16>() {
         Ok(port) => 0 < port && port != own && !text.starts_with('0') && !text.starts_with('+'),
@@ -15,7 +15,7 @@ fn is_port(text: &str, own: u16) -> bool {
     }
 }
 
-// Whether a host stands here, with a port after it or without one. The colons of an address of IPv6 are in brackets.
+// Returns whether the text is a host with an optional port. The colons of an IPv6 address stand in brackets.
 fn is_authority(text: &str, own: u16) -> bool {
     if text.is_empty() || !is_host(text) {
         return false;
@@ -27,8 +27,8 @@ fn is_authority(text: &str, own: u16) -> bool {
     }
 }
 
-/// Whether a browser may send this as the origin of a page (RFC 6454, section 6.2): a scheme, `://` and a host, with a
-/// port after `:` where it is not the scheme's own.
+/// Returns whether a browser may send this text as the origin of a page (RFC 6454, section 6.2). An origin is a scheme,
+/// `://` and a host. If the port is not the default port of the scheme, `:` and the port follow.
 pub(crate) fn is_origin(text: &str) -> bool {
     match text.split_once("://") {
         Some(("http", authority)) => is_authority(authority, 80),

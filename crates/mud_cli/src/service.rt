@@ -14,56 +14,57 @@ use clap::error::ErrorKind;
 use clap::{ArgMatches, Command};
 use std::alloc::{AllocError, Global};
 
-/// What `mud_serve` is asked for.
+/// The task of `mud_serve`.
 #[derive(Clone, Copy)]
 pub enum Service<'a> {
-    /// To answer a script.
+    /// Answer a script.
     Script(ChosenLimits),
-    /// To serve connections.
+    /// Serve connections.
     Listen(Listening<'a>),
 }
 
-/// What `mud_serve listen` was asked for.
+/// The options of `mud_serve listen`.
 #[derive(Clone, Copy)]
 pub struct Listening<'a> {
-    /// What it shares with a script.
+    /// The options that `script` has too.
     pub limits: ChosenLimits,
-    /// The address of this machine on which it listens.
+    /// The address of this machine to listen on.
     pub address: &'a str,
-    /// The port; 0: one that is free.
+    /// The port; 0 picks a free port.
     pub port: u16,
-    /// The door on the web, if there is one.
+    /// The web listener, if there is one.
     pub web: Option<WebListening<'a>>,
-    /// After how many sessions it ends, up to 65,536; 0: it does not.
+    /// The number of sessions after which the server ends, up to 65,536; 0 means that it never ends by itself.
     pub total: u32,
-    /// Whether only sessions count for that which became a player's.
+    /// True if `total` counts only the sessions that became a player's.
     pub count_players: bool,
-    /// How many sessions of one address there may be at once, up to 64; 0: as many as there are places.
+    /// The greatest number of simultaneous sessions of one address, up to 64; 0 means no limit but the number of
+    /// places.
     pub per_address: u32,
-    /// After how many seconds without a line a session ends; 0: it does not.
+    /// The number of seconds without a line after which a session ends; 0 means no limit.
     pub idle: u32,
-    /// After how many seconds a session ends that is nobody's player; 0: it does not.
+    /// The number of seconds after which a session without a player ends; 0 means no limit.
     pub unnamed: u32,
-    /// The file of the history that it goes on from, if there is one.
+    /// The file of the history to continue, if there is one.
     pub load: Option<&'a str>,
-    /// The file of its journal, if it keeps one.
+    /// The file of the journal, if the server keeps one.
     pub journal: Option<&'a str>,
-    /// Whether a line `stop` of standard input, or its end, ends it.
+    /// True if a line `stop` on standard input, or its end, ends the server.
     pub console: bool,
 }
 
-/// What was asked for of a door on the web.
+/// The options of the web listener.
 #[derive(Clone, Copy)]
 pub struct WebListening<'a> {
-    /// The address of this machine on which it listens.
+    /// The address of this machine to listen on.
     pub address: &'a str,
-    /// The port; 0: one that is free.
+    /// The port; 0 picks a free port.
     pub port: u16,
-    /// The origin of its page, as a browser sends it (RFC 6454, section 6.2).
+    /// The origin of the page, as a browser sends it (RFC 6454, section 6.2).
     pub origin: &'a str,
 }
 
-/// What the words of `mud_serve` ask for; the first is the program's name.
+/// Reads the words of `mud_serve`. The first word is the program's name.
 pub fn service_of<'a>(alloc: Global, words: &'a [String]) -> Result<Service<'a>, CommandFault>
     ensures { IfOk result IsServed }
 {
@@ -78,7 +79,7 @@ pub fn service_of<'a>(alloc: Global, words: &'a [String]) -> Result<Service<'a>,
     Err(unfit(alloc, &mut command, ErrorKind::ValueValidation, message))
 }
 
-// Whether a door on the web has an origin that a browser sends.
+// Returns whether the web listener, if there is one, has an origin that a browser can send.
 fn has_origin(service: &Service<'_>) -> bool {
     match service {
         Service::Listen(listening) => match listening.web {
@@ -89,7 +90,7 @@ fn has_origin(service: &Service<'_>) -> bool {
     }
 }
 
-// What was named, if each number is within its range.
+// Returns the service that the matched words name, if each number is within its range.
 fn service_in<'a>(matches: &ArgMatches<'a>) -> Option<Service<'a>>
     ensures { IfSome result IsServed }
 {
@@ -99,7 +100,7 @@ fn service_in<'a>(matches: &ArgMatches<'a>) -> Option<Service<'a>>
     }
 }
 
-// What a server was asked for, if each number is within its range.
+// Returns the options of a server, if each number is within its range.
 fn listening_in<'a>(listen: &ArgMatches<'a>) -> Option<Listening<'a>>
     ensures limits { IfSome result (λ listening. AreWithin listening.limits) }
     ensures total { IfSome result (λ listening. listening.total ≤ MOST_TOTAL) }
@@ -125,7 +126,7 @@ fn listening_in<'a>(listen: &ArgMatches<'a>) -> Option<Listening<'a>>
     })
 }
 
-// The door on the web that was asked for, at this address where none is named.
+// Returns the web listener that was asked for. It listens on this address if the words name no other.
 fn web_in<'a>(listen: &ArgMatches<'a>, address: &'a str) -> Option<WebListening<'a>> {
     Some(WebListening {
         address: listen.get_str("web-address").unwrap_or(address),
@@ -134,12 +135,12 @@ fn web_in<'a>(listen: &ArgMatches<'a>, address: &'a str) -> Option<WebListening<
     })
 }
 
-// The command line that is understood.
+// Builds the `clap` command.
 fn command<'a>(alloc: Global) -> Result<Command<'a>, AllocError> {
     program_of(alloc, "mud_serve", "A server of text worlds", &FORMS)
 }
 
-// What a server can be asked for.
+// The forms of `mud_serve`.
 static FORMS: [Form<'static>; 2] = [
     Form {
         name: "script",

@@ -9,17 +9,17 @@ use clap::error::ErrorKind;
 use clap::{ArgMatches, Command};
 use std::alloc::{AllocError, Global};
 
-/// Where a history's text and a proof's are.
+/// The places of a history's text and of a proof's text.
 #[derive(Clone, Copy)]
 pub enum Sources<'a> {
-    /// In two files of these names.
+    /// Two files with these names.
     Files { history: &'a str, proof: &'a str },
-    /// One after the other in standard input.
+    /// Standard input, the history first.
     Input,
 }
 
-/// Where the words of `mud_check` say that the texts are: in two files, or in standard input where there
-/// are none but the program's name, which is the first.
+/// Reads the words of `mud_check`. The first word is the program's name. Two more words name two files; without them
+/// both texts come from standard input.
 pub fn sources_of<'a>(alloc: Global, words: &'a [String]) -> Result<Sources<'a>, CommandFault> {
     let mut command = command(alloc).map_err(|_| CommandFault::OutOfMemory)?;
     let matches = matches_of(alloc, &mut command, words)?;
@@ -37,7 +37,7 @@ pub fn sources_of<'a>(alloc: Global, words: &'a [String]) -> Result<Sources<'a>,
     }
 }
 
-// The files that were named, both or none.
+// Returns the two files, if both are named.
 fn sources_in<'a>(matches: &ArgMatches<'a>) -> Option<Sources<'a>> {
     match (matches.get_str("HISTORY"), matches.get_str("PROOF")) {
         (Some(history), Some(proof)) => Some(Sources::Files { history, proof }),
@@ -46,12 +46,12 @@ fn sources_in<'a>(matches: &ArgMatches<'a>) -> Option<Sources<'a>> {
     }
 }
 
-// The command line that is understood.
+// Builds the `clap` command.
 fn command<'a>(alloc: Global) -> Result<Command<'a>, AllocError> {
     Ok(command_of(alloc, &FORM)?.version(VERSION))
 }
 
-// What is judged.
+// The form of `mud_check`.
 static FORM: Form<'static> = Form {
     name: "mud_check",
     about: "Tries a certificate against a history; without files it reads the history's text and then the \

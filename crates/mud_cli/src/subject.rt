@@ -1,28 +1,28 @@
-//! Texts that are explained.
+//! The kinds of text that `mud_explain` reads.
 
-/// What `mud_explain` tells of its input.
+/// The subject that `mud_explain` shows of its input.
 #[derive(Clone, Copy)]
 pub enum Subject {
     /// The units of a Telnet stream.
     Units,
-    /// What each line is read as.
+    /// The reading of each line.
     Lines(Reading),
 }
 
-/// What a line is read as.
+/// How to read a line.
 #[derive(Clone, Copy)]
 pub enum Reading {
-    /// A line of words.
+    /// As words.
     Words,
-    /// A command: its verb, objects, preposition and rest.
+    /// As a command: verb, objects, preposition and rest.
     Parse,
-    /// The names of an object.
+    /// As the names of an object.
     Names,
-    /// A key.
+    /// As a key.
     Key,
 }
 
-// The subject of this name.
+// Returns the subject with this name.
 pub(crate) fn subject_named(name: &str) -> Option<Subject> {
     match name {
         "units" => Some(Subject::Units),

@@ -13,25 +13,25 @@ use clap::error::ErrorKind;
 use clap::{ArgMatches, Command};
 use std::alloc::{AllocError, Global};
 
-/// What `mud_explain` is asked for.
+/// The task of `mud_explain`.
 #[derive(Clone, Copy)]
 pub enum Task<'a> {
-    /// To tell how a text is read.
+    /// Show how a text is read.
     Text(Subject),
-    /// To play the steps of desks.
+    /// Play the steps of a hall's desks.
     Hall(Opening<'a>),
 }
 
-/// What a hall begins with.
+/// The initial state of a hall.
 #[derive(Clone, Copy)]
 pub struct Opening<'a> {
-    /// How many changes the history holds at most, 1 to 65,536.
+    /// The greatest number of changes in the history, 1 to 65,536.
     pub capacity: u32,
-    /// The file of the history that the hall goes on from, if there is one.
+    /// The file of the history that the hall continues, if there is one.
     pub load: Option<&'a str>,
 }
 
-/// What the words of `mud_explain` ask for; the first is the program's name.
+/// Reads the words of `mud_explain`. The first word is the program's name.
 pub fn task_of<'a>(alloc: Global, words: &'a [String]) -> Result<Task<'a>, CommandFault>
     ensures { IfOk result IsWithin }
 {
@@ -46,7 +46,7 @@ pub fn task_of<'a>(alloc: Global, words: &'a [String]) -> Result<Task<'a>, Comma
     }
 }
 
-// What was named.
+// Returns the task that the matched words name.
 fn task_in<'a>(matches: &ArgMatches<'a>) -> Option<Task<'a>>
     ensures { IfSome result IsWithin }
 {
@@ -56,7 +56,7 @@ fn task_in<'a>(matches: &ArgMatches<'a>) -> Option<Task<'a>>
     }
 }
 
-// What the hall begins with, if the number is within its range.
+// Returns the initial state of the hall, if its number is within its range.
 fn opening_in<'a>(hall: &ArgMatches<'a>) -> Option<Opening<'a>>
     ensures least { IfSome result (λ opening. 1 ≤ opening.capacity) }
     ensures most { IfSome result (λ opening. opening.capacity ≤ MOST_CAPACITY) }
@@ -70,13 +70,13 @@ fn opening_in<'a>(hall: &ArgMatches<'a>) -> Option<Opening<'a>>
     }
 }
 
-// The command line that is understood.
+// Builds the `clap` command.
 fn command<'a>(alloc: Global) -> Result<Command<'a>, AllocError> {
     let about = "Tells how the text of standard input is read, and what desks of a hall answer";
     program_of(alloc, "mud_explain", about, &FORMS)
 }
 
-// What can be explained.
+// The forms of `mud_explain`.
 static FORMS: [Form<'static>; 6] = [
     Form {
         name: "units",

@@ -6,7 +6,7 @@ use std::rt::Env;
 
 const NOT_UTF8: &str = "error: a word of the command line is not UTF-8\n";
 
-/// The words of the command line, the program's name first. A word that is not UTF-8 is told.
+/// Returns the words of the command line, beginning with the program's name. A word that is not UTF-8 is an error.
 pub fn words_of<R: Env + AllocGlobal>(rt: &R) -> Result<Vec<String>, CommandFault> {
     match given_words(rt) {
         Ok(words) => Ok(words),
@@ -20,7 +20,7 @@ pub fn words_of<R: Env + AllocGlobal>(rt: &R) -> Result<Vec<String>, CommandFaul
     }
 }
 
-// The words, as the host gives them.
+// Returns the words as the operating system gives them.
 fn given_words<R: Env + AllocGlobal>(rt: &R) -> io::Result<Vec<String>> {
     let words = std::env::args(rt)?.collect(rt.alloc())?;
     Ok(words)

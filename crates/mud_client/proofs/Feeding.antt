@@ -1,5 +1,5 @@
--- What waits is fed, one piece after the other.
-use Rattle.std.proofs.Common.{◌≡◌, ◌<◌, ◌+◌, ℕ, true, false, ◌==◌, List, [], ◌∷◌, ◌++◌, length, map}
+-- The waiting text is fed, piece by piece.
+use Rattle.std.proofs.Common.{◌≡◌, ◌≢◌, ◌<◌, ◌+◌, ℕ, true, false, ◌==◌, List, [], ◌∷◌, ◌++◌, length, map}
 use Rattle.std.proofs.Common.{Some, refl, sym, ap, subst, ◌∙◌, append-nil, append_assoc, arith, length-drop}
 use Rattle.std.proofs.Common.{take-append-drop}
 use Rattle.std.specs.List.{position_or_len, after_first}
@@ -15,11 +15,11 @@ use Rattle.mud_client.specs.declared.talk.Talk.{Talk}
 use Rattle.mud_client.specs.Steps.{ends_line, first_line}
 use Rattle.mud_client.specs.inner.Talking.{Feeding, FeedsLine}
 
--- the first line, and what follows it
+-- the first line, and the text after it
 pub line_splits : (bs : List ℕ) → bs ≡ first_line bs ++ after_first ends_line bs
 line_splits bs = sym (take-append-drop (position_or_len ends_line bs + 1) bs)
 
--- something was fed, where something waited
+-- something was fed, because something waited
 pub shorter : (bs rest : List ℕ) (len : ℕ) → len ≡ length bs → false ≡ (len == 0) → rest ≡ after_first ends_line bs
     → length rest < length bs
 shorter [] rest len same some is = absurd (grind (arith, nat_tests, same, some))
@@ -31,7 +31,12 @@ pub none_waits : (bs : List ℕ) (len : ℕ) → len ≡ length bs → true ≡ 
 none_waits [] len same none = refl
 none_waits (b ∷ bs) len same none = absurd (grind (arith, nat_tests, same, none))
 
--- ---- one piece, and another
+pub some_wait : (bs : List ℕ) (len : ℕ) → len ≡ length bs → false ≡ (len == 0) → bs ≢ []
+some_wait bs len same some none =
+    let empty : length bs ≡ 0 = ap length none in
+    absurd (grind (arith, nat_tests, same, some, empty))
+
+-- ---- two pieces
 
 pub feeds_none : (takes_in : TakingIn) (earlier : List ℕ) (session : SessionState) (door : DoorState)
     → session.has_ended ≡ false → StandsAfter session.terminal earlier
@@ -47,7 +52,7 @@ feeds_none takes_in earlier session door going stands = record {
   out = sym (append-nil session.out);
 }
 
--- units that all had their turns, and more
+-- units that all had their turns, and more units
 units_so : (us vs left : List Given) (xs ys : List Turn) → map Some us ≡ map unit_in xs ++ map Some []
     → map Some vs ≡ map unit_in ys ++ map Some left → map Some (us ++ vs) ≡ map unit_in (xs ++ ys) ++ map Some left
 units_so us vs left xs ys one other =
@@ -86,7 +91,7 @@ feeds_on takes_in earlier a b said old mid new was at is same silent f g =
           ∙ ap (λ (l : List ℕ). old.out ++ l) (sym (text_of-append f.play.turns more));
     }
 
--- ---- as the code has it
+-- ---- in the code's terms
 
 pub line_fed : (takes_in : TakingIn) (old new : Talk) (was is : DoorState) (line : List ℕ)
     → line ≡ first_line old.waiting.items → new.waiting.items ≡ after_first ends_line old.waiting.items
@@ -113,7 +118,7 @@ fed_none takes_in talk door going = record {
   feeds = λ earlier stands. feeds_none takes_in earlier talk.session door going stands;
 }
 
--- one line more was fed, after what was to be said was let go
+-- one more line was fed, after the output was dropped
 pub fed_more : (takes_in : TakingIn) (done before : List ℕ) (old mid new : Talk) (now : SessionState)
     (was at is : DoorState) → at.capacity ≡ was.capacity → now ≡ record mid.session { out = [] }
     → Feeding takes_in done (before ++ mid.session.out) old mid was at

@@ -1,4 +1,4 @@
--- One step more of what leaves.
+-- One more step of the output.
 use Rattle.std.proofs.Common.{◌≡◌, ℕ, List, [], ◌∷◌, ◌++◌, refl, sym, ap, subst, ◌∙◌, append-nil, append_assoc}
 use Rattle.std.proofs.Common.{None, inl, inr}
 use Rattle.std.specs.List.{flat_map}
@@ -23,7 +23,7 @@ use Rattle.mud_client.specs.Sayings.{AreReplies, SaysUpTo}
 snoc : {A B : Type 0} (f : A → List B) (xs : List A) (x : A) → flat_map f (xs ++ x ∷ []) ≡ flat_map f xs ++ f x
 snoc f xs x = flat_map-append f xs (x ∷ []) ∙ ap (λ (l : List _). flat_map f xs ++ l) (append-nil (f x))
 
--- what leaves with replies and no message, and the other way round
+-- output with replies and no message, and conversely
 replies_alone : (bytes : List ℕ) → bytes ++ frames_of [] ≡ bytes
 replies_alone bytes = ap (λ (l : List ℕ). bytes ++ l) frames_none ∙ append-nil bytes
 
@@ -34,7 +34,7 @@ typed_grows earlier bytes fresh finishes =
 
 -- ---- over a web socket
 
--- nothing came
+-- there was no input
 framed_new : (channel : Standing) → StandsAfter channel [] → IsFramed channel [] [] [] []
 unfolding read_times read_step decode_frame decode_header
 framed_new channel stands = record {
@@ -46,7 +46,7 @@ framed_new channel stands = record {
   leaves = refl;
 }
 
--- the frames that the bytes finish are replied to
+-- the frames that the bytes complete are replied to
 framed_on : (old new : Standing) (came bytes typed waiting after said sent answered : List ℕ)
     → TakesIn old new bytes waiting after [] answered → IsFramed old came (typed ++ waiting) said sent
     → IsFramed new (came ++ bytes) (typed ++ after) said (sent ++ answered)
@@ -69,7 +69,7 @@ framed_on old new came bytes typed waiting after said sent answered takes f =
           ∙ sym (snoc (λ (l : Leaving). replies l.answered ++ frames_of l.said) f.leavings more);
     }
 
--- this is said
+-- this is output
 framed_more : (channel : Standing) (came typed said text sent : List ℕ) → IsFramed channel came typed said sent
     → IsFramed channel came typed (said ++ text) (sent ++ frames_of text)
 framed_more channel came typed said text sent f =
@@ -85,7 +85,7 @@ framed_more channel came typed said text sent f =
           ∙ sym (snoc (λ (l : Leaving). replies l.answered ++ frames_of l.said) f.leavings more);
     }
 
--- ---- by either
+-- ---- with either framing
 
 pub frames_new : (framing : Framing) → IsNew framing → Frames framing [] [] [] []
 frames_new Telnet new = (refl, refl)
@@ -109,7 +109,7 @@ pub frames_more : (framing : Framing) (came typed said text sent : List ℕ) →
 frames_more Telnet came typed said text sent f = (f.0, ap (λ (l : List ℕ). l ++ text) f.1)
 frames_more (Web channel) came typed said text sent f = framed_more channel came typed said text sent f
 
--- ---- the versions that are named
+-- ---- the named versions
 
 pub says_framed : (framing : Framing) (most : ℕ) (text : List ℕ) → NamesUpTo most text
     → SaysUpTo most (framed framing text)

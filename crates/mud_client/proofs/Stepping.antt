@@ -1,6 +1,6 @@
 -- A client after a step.
-use Rattle.std.proofs.Common.{◌≡◌, ℕ, Bool, true, false, List, [], ◌++◌, Option, None, Some, is_some, refl, sym, ap}
-use Rattle.std.proofs.Common.{subst, ◌∙◌, append-nil, append_assoc, ◌⊎◌, inl, inr}
+use Rattle.std.proofs.Common.{◌≡◌, ◌≢◌, ℕ, Bool, true, false, List, [], ◌++◌, Option, None, Some, is_some, refl}
+use Rattle.std.proofs.Common.{sym, ap, subst, ◌∙◌, append-nil, append_assoc, ◌⊎◌, inl, inr}
 use Rattle.std.proofs.Math.Logic.{∥∥₁_map}
 use Rattle.websocket.specs.declared.error.Error.{Error}
 use Rattle.mud_nvt.specs.History.{StandsAfter}
@@ -15,7 +15,6 @@ use Rattle.mud_session.proofs.Talking.{talks_go_on}
 use Rattle.mud_client.specs.declared.framing.Framing.{Framing}
 use Rattle.mud_client.specs.declared.talk.Talk.{Talk}
 use Rattle.mud_client.specs.declared.outgoing.End.{End}
-use Rattle.mud_client.specs.declared.outgoing.End.TheVariants as End
 use Rattle.mud_client.specs.declared.outgoing.Outgoing.{Outgoing}
 use Rattle.mud_web.specs.declared.closing.Ending.{Ending}
 use Rattle.mud_web.specs.declared.fault.Fault.{Fault}
@@ -30,7 +29,7 @@ use Rattle.mud_client.specs.inner.Talking.{FeedsLine, FeedsAll, within, silent, 
 use Rattle.mud_client.proofs.Leaving.{frames_new, frames_on, frames_more, says_framed, replies_broken}
 use Rattle.mud_client.proofs.Feeding.{line_splits}
 
--- ---- it begins
+-- ---- the initial state
 
 pub begins : (client : ClientState) (desk : DeskState) → IsNew client.framing → client.waiting ≡ []
     → StandsAfter client.session.terminal [] → client.session.has_ended ≡ false → client.session.out ≡ greeting
@@ -54,7 +53,7 @@ sound_new client desk new none stands going out is goes_on = record {
   ended = goes_on ∙ sym going;
 }
 
--- ---- bytes come
+-- ---- input
 
 read_stands : (bytes waiting answered came sent : List ℕ) (old : ClientState) (framing : Framing)
     → Reads old.framing framing bytes old.waiting waiting answered → Stands came sent old
@@ -82,7 +81,7 @@ comes_sound bytes answered old new c i = record {
   ended = subst (λ (x : ClientState). x.has_ended ≡ x.session.has_ended) (sym c.same) i.ended;
 }
 
--- ---- its session is fed, or looks
+-- ---- feeding the session, or looking
 
 fed_stands : (line said came sent : List ℕ) (old new : ClientState) → new.capacity ≡ old.capacity
     → new.framing ≡ old.framing → old.waiting ≡ line ++ new.waiting → IsFed line said old new → Stands came sent old
@@ -124,7 +123,7 @@ nudged_stands said came sent old new capacity framing waits nudges s =
           (subst (λ (w : List ℕ). Frames old.framing came (s.typed ++ w) s.said sent) (sym waits) s.frames);
     }
 
--- ---- what it is to say is given
+-- ---- its output is returned
 
 said_stands : (came sent : List ℕ) (client : ClientState) → Stands came sent client
     → Stands came (sent ++ framed client.framing client.session.out) (record client { session = silent client.session })
@@ -144,7 +143,7 @@ said_sound client i = record {
   ended = i.ended;
 }
 
--- ---- by the definitions: a step leads on from where the client stood
+-- ---- in the definitions' terms: a step continues the client's state
 
 emptied : (session : SessionState) → session.out ≡ [] → silent session ≡ session
 emptied session none = ap (λ (o : List ℕ). record session { out = o }) (sym none)
@@ -170,13 +169,13 @@ given_stands came sent answered mid new out (inr (none, a)) s =
     line_stands came sent mid new out a
     (subst (λ (t : List ℕ). Stands came t mid) (ap (λ (l : List ℕ). sent ++ l) none ∙ append-nil sent) s)
 
-pub steps_stand : (bytes came sent : List ℕ) (old new : ClientState) (out : Outgoing) → Steps bytes old new out
+steps_stand : (bytes came sent : List ℕ) (old new : ClientState) (out : Outgoing) → Steps bytes old new out
     → Stands came sent old → Stands (came ++ bytes) (sent ++ out.text.text.items) new
 steps_stand bytes came sent old new out step s =
     given_stands (came ++ bytes) sent step.answered step.mid new out step.gives
     (comes_stands bytes step.answered came sent old step.mid step.comes s)
 
-pub looks_stand : (came sent : List ℕ) (old new : ClientState) (out : Outgoing) → Looks old new out
+looks_stand : (came sent : List ℕ) (old new : ClientState) (out : Outgoing) → Looks old new out
     → Stands came sent old → Stands came (sent ++ out.text.text.items) new
 looks_stand came sent old new out l s =
     let framing = ap (λ (x : ClientState). x.framing) l.same in
@@ -188,7 +187,7 @@ looks_stand came sent old new out l s =
     (subst (λ (n : SessionState). Stands came (sent ++ framed new.framing l.said) (record new { session = n }))
     (emptied new.session l.told) told)
 
--- ---- how a step ends
+-- ---- the end of a step
 
 pub match_end : {P Q R S : Type 0} {F G : Error → Type 0} (end : Option End) → (P → Q)
     → ((e : Error) → end ≡ Some (End.Over e) → F e → G e) → (R → S) → MatchEnd end P F R → MatchEnd end Q G S
@@ -199,12 +198,45 @@ match_end (Some End.OutOfMemory) done over refused m = refused m
 match_end (Some End.NotText) done over refused m = refused m
 match_end (Some End.Earlier) done over refused m = refused m
 
-pub if_done : (P Q R : Type 0) (F : Error → Type 0) (end : Option End) → (P → Q) → MatchEnd end P F R → IfDone end Q
+if_done : (P Q R : Type 0) (F : Error → Type 0) (end : Option End) → (P → Q) → MatchEnd end P F R → IfDone end Q
 if_done P Q R F end done m = match_end end done (λ e is f. tt) (λ r. tt) m
 
--- ---- as the code has it
+-- a step whose output is the replies to frames
+pub frames_step : (bytes replies : List ℕ) (old mid new : ClientState) (out : Outgoing)
+    → Comes bytes replies old mid → replies ≢ [] → new ≡ mid → out.text.text.items ≡ replies
+    → out.text.version ≡ 0 → out.has_line ≡ false → Steps bytes old new out
+frames_step bytes replies old mid new out comes some same gives version line = record {
+  answered = replies;
+  mid = mid;
+  comes = comes;
+  gives = inl (record { some = some; same = same; gives = gives; version = version; line = line });
+}
 
--- a door is known by its desk, and how many entries the history can have
+-- a step that answers the first waiting line
+pub line_step : (bytes replies : List ℕ) (old mid new : ClientState) (out : Outgoing)
+    → Comes bytes replies old mid → replies ≡ []
+    → MatchEnd out.end (AnswersLine mid new out) (λ error. ⊥) (out.text.text.items ≡ [])
+    → MatchEnd out.end (Steps bytes old new out) (λ error. CutsOff bytes error old new out) (out.text.text.items ≡ [])
+line_step bytes replies old mid new out comes none m =
+    match_end out.end
+    (λ line. record { answered = replies; mid = mid; comes = comes; gives = inr (none, line) })
+    (λ e is over. absurd over) (λ undone. undone) m
+
+pub step_stands : (bytes came sent : List ℕ) (old new : ClientState) (out : Outgoing)
+    → MatchEnd out.end (Steps bytes old new out) (λ error. CutsOff bytes error old new out) (out.text.text.items ≡ [])
+    → Stands came sent old → IfDone out.end (Stands (came ++ bytes) (sent ++ out.text.text.items) new)
+step_stands bytes came sent old new out m s =
+    if_done _ _ _ _ out.end (λ step. steps_stand bytes came sent old new out step s) m
+
+pub look_stands : (came sent : List ℕ) (old new : ClientState) (out : Outgoing)
+    → MatchEnd out.end (Looks old new out) (λ error. ⊥) (out.text.text.items ≡ []) → Stands came sent old
+    → IfDone out.end (Stands came (sent ++ out.text.text.items) new)
+look_stands came sent old new out m s =
+    if_done _ _ _ _ out.end (λ looks. looks_stand came sent old new out looks s) m
+
+-- ---- in the code's terms
+
+-- a door is determined by its desk and the capacity of the history
 fed_at : (line earlier : List ℕ) (old new : SessionState) (was is : DoorState) (capacity : ℕ)
     → Feeds TakesIn earlier line old new was is
     → Feeds TakesIn earlier line old new (record was { pending = [] })
@@ -269,7 +301,7 @@ line_said old new was is line client out same f ends says =
       ended = refl;
     })
 
--- it looked
+-- the session looked
 pub look_sound : (talk : Talk) (session : SessionState) (was is : DoorState)
     → is.capacity ≡ was.capacity → Nudges TakesIn talk.session session was is → IsSound (within talk was false)
     → IsSound (within (record talk { session = session }) is session.has_ended)
@@ -305,7 +337,7 @@ look_said talk session was is client out same n says =
       line = says.has_line;
     })
 
--- all that waited was fed
+-- all waiting lines were fed
 pub all_fed : (old new : Talk) (was is : DoorState) (client : ClientState) (has_ended : Bool)
     → FeedsAll TakesIn old new was is → client ≡ within new is has_ended → IsFedAll (within old was false) client
 all_fed old new was is client has_ended f same =
@@ -318,7 +350,7 @@ all_fed old new was is client has_ended f same =
           is.capacity (f.feeding.feeds earlier stands);
     })
 
--- ---- the last words
+-- ---- the last output
 
 pub parted : (line none said text : List ℕ) (ending : Option Ending) (mid : Framing) (old new : ClientState)
     → none ≡ [] → mid ≡ old.framing → new ≡ record old { framing = new.framing; has_ended = true }
@@ -363,7 +395,7 @@ parted line none said text ending mid old new nothing same is (inr words) (inr c
 
 -- ---- a step
 
--- a client that goes on is sound
+-- a client that has not ended is sound
 pub ended_sound : (end : Option End) (talk : Talk) (seat : DoorState) (capacity : ℕ) (desk : DeskState)
     (has_ended : Bool) → has_ended ≡ is_some end → seat.capacity ≡ capacity → desk ≡ seat.desk
     → (end ≡ None → ∥ IsSound (within talk seat false) ∥₁)
@@ -375,14 +407,14 @@ ended_sound None talk seat capacity desk has_ended is same sits sound =
     (subst (λ (d : DeskState). IsSound (state_of capacity talk d false)) (sym sits)
     (subst (λ (n : ℕ). IsSound (state_of n talk seat.desk false)) same i))))
 
--- what is said names no version beyond what the desk has seen
+-- the output names no version beyond the entries that the desk has seen
 pub said_names : (framing : Framing) (seen version : ℕ) (out said bytes : List ℕ) → NamesUpTo seen out → said ≡ out
     → bytes ≡ framed framing said → version ≡ seen → SaysUpTo version bytes
 said_names framing seen version out said bytes names is framing_is long =
     subst (λ (n : ℕ). SaysUpTo n bytes) (sym long)
     (subst (SaysUpTo seen) (sym (framing_is ∙ ap (framed framing) is)) (says_framed framing seen out names))
 
--- after it was said
+-- after the output was returned
 pub said_within : (talk now : Talk) (seat : DoorState) → now.framing ≡ talk.framing → now.session ≡ silent talk.session
     → now.waiting ≡ talk.waiting → talk.session.has_ended ≡ false
     → IsSound (within talk seat talk.session.has_ended) → IsSound (within now seat false)
@@ -399,7 +431,7 @@ said_within talk now seat framing session waiting going i =
       waiting = w;
     })) (sym (ap (λ v. v.items) waiting)) told)))
 
--- what an invariant says of a client that has not ended
+-- the invariant of a client that has not ended
 pub sound_here : (has_ended : Bool) (state client : ClientState) → has_ended ≡ false → state ≡ client
     → ∥ (has_ended ≡ false → IsSound state) ∥₁ → ∥ IsSound client ∥₁
 sound_here has_ended state client going here sound =

@@ -1,4 +1,4 @@
--- What a contract sees of a client, and where it stands.
+-- The model of a client.
 use Rattle.std.specs.Prelude.{◌≡◌, ℕ, Bool, List, ◌++◌}
 use Rattle.mud_hall.specs.Desk.{DeskState}
 use Rattle.mud_session.specs.State.{SessionState}
@@ -8,8 +8,7 @@ use Rattle.mud_client.specs.declared.framing.Framing.{Framing}
 use Rattle.mud_client.specs.declared.talk.Talk.{Talk}
 use Rattle.mud_client.specs.Framed.{Frames}
 
--- how many entries the history can have, how its bytes are framed, what was typed and waits, its session, its desk,
--- and whether it has ended
+-- a client: the capacity of the history, the framing, the waiting text, its session, its desk, and whether it has ended
 pub record ClientState : Type 0 where
   pub capacity : ℕ
   pub framing : Framing
@@ -28,16 +27,17 @@ state_of capacity talk desk has_ended = record {
   has_ended = has_ended;
 }
 
--- these bytes came to a client, and it gave those to be sent: its session was typed exactly what came, up to what
--- waits. Its greeting and the text of the turns that were played at its desk is what was given, framed, with the
--- replies to the frames that came, and what is still to be said
+-- a client that received these bytes and sent those. Its session received exactly the typed text, up to the waiting
+-- part. Its greeting and the text of the turns played at its desk are the output sent, framed, with the replies to the
+-- frames received, and the output still to be sent
 pub record Stands (came sent : List ℕ) (client : ClientState) : Type 0 where
   pub typed : List ℕ
   pub said : List ℕ
   pub talk : IsTalk client.capacity greeting typed said client.session client.desk
   pub frames : Frames client.framing came (typed ++ client.waiting) said sent
 
--- some bytes came to it, and it names no version beyond what its desk has seen; it has ended where its session has
+-- it received some bytes, and names no version beyond the entries that its desk has seen; it has ended if its session
+-- has
 pub record IsSound (client : ClientState) : Type 0 where
   pub came : List ℕ
   pub sent : List ℕ

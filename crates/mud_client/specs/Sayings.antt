@@ -1,4 +1,4 @@
--- What leaves a client, and the versions that it names.
+-- The output of a client, and the versions that it names.
 use Rattle.std.specs.Prelude.{◌≡◌, ◌⊎◌, ℕ, List, ◌++◌, Option}
 use Rattle.websocket.specs.Connection.{Effect}
 use Rattle.mud_web.specs.declared.closing.Ending.{Ending}
@@ -7,7 +7,7 @@ use Rattle.mud_web.specs.Sending.{frames_of}
 use Rattle.mud_web.specs.Close.{closes}
 use Rattle.mud_session.specs.Notices.{NamesUpTo}
 
--- the protocol's replies to the frames that some bytes finish, and maybe a close
+-- the protocol's replies to the frames that some bytes complete, and possibly a close
 pub record AreReplies (bytes : List ℕ) : Type 0 where
   pub earlier : List ℕ
   pub came : List ℕ
@@ -16,7 +16,7 @@ pub record AreReplies (bytes : List ℕ) : Type 0 where
   pub ending : Option Ending
   pub is : bytes ≡ replies answered ++ closes ending
 
--- what leaves is a text that names no version above `most`, as it is or as messages; or replies, which name none
+-- the output is a text that names no version above `most`, framed or not; or replies, which name none
 abbrev pub SaysUpTo : ℕ → List ℕ → Type 0
 SaysUpTo most bytes =
     NamesUpTo most bytes ⊎ ((said : List ℕ) × NamesUpTo most said × (bytes ≡ frames_of said)) ⊎ AreReplies bytes

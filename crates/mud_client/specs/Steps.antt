@@ -1,4 +1,4 @@
--- What a client does in one step.
+-- The effect of one step on a client.
 use Rattle.std.specs.Prelude.{◌≡◌, ◌≢◌, ◌⊎◌, ℕ, ◌+◌, nat_lt, Bool, true, false, ◌&&◌, ◌||◌, ◌==◌, if◌then◌else◌}
 use Rattle.std.specs.Prelude.{List, [], ◌++◌, length, take, Option, None, Some, is_some, is_none}
 use Rattle.std.specs.List.{position_or_len, after_first}
@@ -15,10 +15,10 @@ use Rattle.mud_client.specs.declared.outgoing.Outgoing.{Outgoing}
 use Rattle.mud_client.specs.Framed.{Reads, Breaks, framed, last_words, last_close}
 use Rattle.mud_client.specs.Client.{ClientState}
 
--- ---- how a step ends
+-- ---- the end of a step
 
--- it was done, and the client goes on, or its player was answered `quit`; frames ended it with this error; or it was
--- not done
+-- the step was done, and the client continues or its player got the answer to `quit`; frames ended it with this error;
+-- or it was not done
 abbrev pub MatchEnd : Option End → (done : Type 0) → (over : Error → Type 0) → (refused : Type 0) → Type 0
 MatchEnd None done over refused = done
 MatchEnd (Some Quit) done over refused = done
@@ -32,11 +32,11 @@ IfDone end done = MatchEnd end done (λ error. Unit {0}) (Unit {0})
 
 -- ---- its session
 
--- its desk, at a hall whose history can have so many entries
+-- its desk, at a hall whose history has this capacity
 abbrev pub door_of : ClientState → DoorState
 door_of client = record { capacity = client.capacity; desk = client.desk; pending = [] }
 
--- the session is typed this, whatever was typed earlier, and then that is what it is to say
+-- the session receives this input, whatever it received earlier, and then has this output
 abbrev pub IsFed : (typed said : List ℕ) → (old new : ClientState) → Type 0
 IsFed typed said old new =
     (earlier : List ℕ) → StandsAfter old.session.terminal earlier
@@ -45,22 +45,22 @@ IsFed typed said old new =
 abbrev pub ends_line : ℕ → Bool
 ends_line b = (b == CR) || (b == LF)
 
--- the first line of a text, with the byte that ends it; where none does, the text
+-- the first line of a text, with the byte that ends it, or the whole text if there is none
 abbrev pub first_line : List ℕ → List ℕ
 first_line text = take (position_or_len ends_line text + 1) text
 
--- that line is ended
+-- that line has an end
 abbrev pub has_line : List ℕ → Bool
 has_line text = nat_lt (position_or_len ends_line text) (length text)
 
--- ---- a step in which bytes come
+-- ---- a step with input
 
--- bytes come: what they type waits, and these are the protocol's replies to their frames
+-- the typed text of the input waits, and these are the protocol's replies to its frames
 pub record Comes (bytes answered : List ℕ) (old new : ClientState) : Type 0 where
   pub reads : Reads old.framing new.framing bytes old.waiting new.waiting answered
   pub same : new ≡ record old { framing = new.framing; waiting = new.waiting }
 
--- the replies are given, and wait for no entry; what waits is left
+-- the replies are the output, and wait for no entry; the waiting text stays
 pub record AnswersFrames (answered : List ℕ) (old new : ClientState) (out : Outgoing) : Type 0 where
   pub some : answered ≢ []
   pub same : new ≡ old
@@ -68,8 +68,8 @@ pub record AnswersFrames (answered : List ℕ) (old new : ClientState) (out : Ou
   pub version : out.text.version ≡ 0
   pub line : out.has_line ≡ false
 
--- the first line that waits is fed. The text of its turns is given, framed, and what was to be said before it; it waits
--- for the entries that the desk has seen
+-- the first waiting line is fed. The output is the earlier output and the text of its turns, framed; it waits for the
+-- entries that the desk has seen
 pub record AnswersLine (old new : ClientState) (out : Outgoing) : Type 0 where
   pub capacity : new.capacity ≡ old.capacity
   pub framing : new.framing ≡ old.framing
@@ -82,15 +82,15 @@ pub record AnswersLine (old new : ClientState) (out : Outgoing) : Type 0 where
   pub line : out.has_line ≡ has_line old.waiting
   pub ended : new.has_ended ≡ new.session.has_ended
 
--- bytes come. Where the protocol replies to their frames, that is given, and nothing else; else the first line that
--- waits is answered
+-- a step with input. If the protocol replies to its frames, these replies are the whole output; otherwise the first
+-- waiting line is answered
 pub record Steps (bytes : List ℕ) (old new : ClientState) (out : Outgoing) : Type 0 where
   pub answered : List ℕ
   pub mid : ClientState
   pub comes : Comes bytes answered old mid
   pub gives : AnswersFrames answered mid new out ⊎ ((answered ≡ []) × AnswersLine mid new out)
 
--- all that waits is fed, up to an answered `quit`
+-- all waiting text is fed, up to an answered `quit`
 pub record IsFedAll (old new : ClientState) : Type 0 where
   pub done : List ℕ
   pub splits : old.waiting ≡ done ++ new.waiting
@@ -98,8 +98,8 @@ pub record IsFedAll (old new : ClientState) : Type 0 where
   pub said : List ℕ
   pub feeds : IsFed done said old new
 
--- frames end the connection with this error. What was typed before is fed, and no text of it is given: that is the
--- replies to the frames, and the close that the error asks for
+-- frames end the connection with this error. The text typed before is fed, and its answers are dropped: the output is
+-- the replies to the frames, and the close that the error calls for
 pub record CutsOff (bytes : List ℕ) (error : Error) (old new : ClientState) (out : Outgoing) : Type 0 where
   pub typed : List ℕ
   pub breaks : Breaks old.framing bytes old.waiting typed out.text.text.items error
@@ -107,7 +107,7 @@ pub record CutsOff (bytes : List ℕ) (error : Error) (old new : ClientState) (o
 
 -- ---- the other steps
 
--- it looks for what others did: what the session says of it is given, framed, and what was to be said before it
+-- it looks for changes of others: the output is the earlier output and the notices, framed
 pub record Looks (old new : ClientState) (out : Outgoing) : Type 0 where
   pub said : List ℕ
   pub nudges : Nudges TakesIn old.session (record new.session { out = said }) (door_of old) (door_of new)
@@ -117,7 +117,7 @@ pub record Looks (old new : ClientState) (out : Outgoing) : Type 0 where
   pub version : out.text.version ≡ length new.desk.seen
   pub line : out.has_line ≡ false
 
--- its last words are this line and this close; where memory runs out, some of that is missing
+-- its last output is this line and this close; if an allocation fails, a part of that is missing
 pub record Parts (line : List ℕ) (ending : Option Ending) (old new : ClientState) (text : List ℕ) : Type 0 where
   pub words : List ℕ
   pub says : (words ≡ last_words old.framing line) ⊎ (words ≡ [])
@@ -126,10 +126,10 @@ pub record Parts (line : List ℕ) (ending : Option Ending) (old new : ClientSta
   pub is : text ≡ words ++ close
   pub same : new ≡ record old { framing = new.framing; has_ended = true }
 
--- ---- what a step reports
+-- ---- the report of a step
 
--- whether the client has ended; whether lines wait; how many entries the desk has seen, if a change was accepted there
--- beyond so many; and whether it is a player's
+-- a step reports whether the client has ended, whether lines wait, the number of entries seen if the desk accepted a
+-- change beyond the earlier count, and whether it is a player's
 pub record Reports (accepted : ℕ) (client : ClientState) (out : Outgoing) : Type 0 where
   pub ended : client.has_ended ≡ is_some out.end
   pub more : out.has_more ≡ (is_none out.end && nat_lt 0 (length client.waiting))

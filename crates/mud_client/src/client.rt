@@ -1,4 +1,4 @@
-//! A client: its session, its desk, and how its bytes are framed.
+//! Clients: a session, its desk, and the framing of its bytes.
 
 ghost use Rattle.std.specs.Prelude.{◌≡◌, ◌≤◌, ◌++◌, ℕ, List, [], length, true, false, Some, IfOk, IfErr};
 ghost use Rattle.mud_search.specs.declared.limits.TheConstants.{MOST_WORKERS};
@@ -12,6 +12,7 @@ use crate::outgoing::{End, Outgoing};
 use crate::step::Place;
 use crate::talk::Talk;
 use mud_hall::{Desk, Hall, HallName};
+use mud_journal::Held;
 use mud_session::Seat;
 use mud_web::Ending;
 use std::alloc::Global;
@@ -19,8 +20,8 @@ use std::marker::Model;
 use std::sync::Wait;
 use std::thread::Threads;
 
-/// A session at its desk, and how its bytes are framed. Unless it has ended, what it gave to be sent is a front of its
-/// greeting and of the text of turns that were played at its desk, framed.
+/// A session at its desk, and the framing of its bytes. Unless the client has ended, its output is a prefix of its
+/// greeting and the text of the turns played at its desk, framed.
 #[derive(Drop)]
 pub struct Client<J: HallName> {
     pub(crate) talk: Talk,
@@ -45,8 +46,8 @@ impl<J: HallName> Model for Client<J> {
 }
 
 impl<J: HallName> Client<J> {
-    /// A client to which nothing came, and which is to greet, at the desk, which is a guest's again. Where memory runs
-    /// out, the desk comes back as it was.
+    /// Returns a client in its initial state, with the greeting as its output, at the desk, which becomes a guest's
+    /// again. If an allocation fails, the desk comes back unchanged.
     pub fn new(alloc: Global, framing: Framing, desk: Desk<J>) -> Result<Client<J>, Desk<J>>
         requires { IsNew framing }
         ensures stands { IfOk result (λ client. Stands [] [] client) }
@@ -67,10 +68,10 @@ impl<J: HallName> Client<J> {
         })
     }
 
-    /// Takes in what came from the other side, and answers the first line that waits then: so no more is to be sent at
-    /// once than the answer to one line. Where lines are left, the next call answers one of them, also one of no bytes.
-    /// Where frames that came are replied to, those replies are given first, and no line is answered. Where frames end
-    /// the connection, what was typed before is done, though it gets no answer.
+    /// Consumes input, and answers the first waiting line. So the output of one call is at most the answer to one line.
+    /// If more lines wait, the next call answers one of them, even with empty input. If the input has frames to reply
+    /// to, the call returns those replies, and answers no line. If frames end the connection, the lines typed before
+    /// are executed, and get no answer.
     pub fn feed<R: Threads + Wait + Sync>(
         self,
         rt: &R,
@@ -87,18 +88,28 @@ impl<J: HallName> Client<J> {
         ensures reports { Reports (length self.desk.calls) result.0 result.1 }
     {
         let Client {
-            talk,
+            mut talk,
             desk,
             has_ended,
         } = self;
-        let place = Place::new(Seat::new(hall, desk, workers));
+        let mut place = Place::new(Seat::new(hall, desk, workers));
         if has_ended {
             return talk.refuse(place, End::Earlier);
         }
-        talk.take_in(rt, place, bytes)
+        let mut replies = Vec::new(talk.alloc);
+        if let Err(fault) = talk.framing.read(bytes, &mut talk.waiting, &mut replies) {
+            return talk.cut_off(rt, place, replies, fault);
+        }
+        if !replies.is_empty() {
+            return talk.end(place, Held::new(replies, 0), None, false);
+        }
+        match talk.feed_line(rt, &mut place.seat) {
+            Ok(has_line) => talk.say(place, has_line),
+            Err(fault) => talk.refuse(place, End::of_session(fault)),
+        }
     }
 
-    /// Looks for what others did, at none of the entries after the `most`-th.
+    /// Looks for changes of others, but at no entry after the `most`-th.
     pub fn nudge(self, hall: &Hall<J>, workers: u32, most: u32) -> (Client<J>, Outgoing)
         requires { workers ≤ MOST_WORKERS }
         ensures step { MatchEnd result.1.end (Looks self result.0 result.1) (λ error. ⊥)
@@ -109,19 +120,22 @@ impl<J: HallName> Client<J> {
         ensures reports { Reports (length self.desk.calls) result.0 result.1 }
     {
         let Client {
-            talk,
+            mut talk,
             desk,
             has_ended,
         } = self;
-        let place = Place::new(Seat::up_to(hall, desk, workers, most));
+        let mut place = Place::new(Seat::up_to(hall, desk, workers, most));
         if has_ended {
             return talk.refuse(place, End::Earlier);
         }
-        talk.look(place)
+        match talk.session.nudge(&mut place.seat) {
+            Ok(()) => talk.say(place, false),
+            Err(fault) => talk.refuse(place, End::of_session(fault)),
+        }
     }
 
-    /// What is said at the end, and the client, which takes nothing more: a line of the server's own, and the close of
-    /// a web socket, unless one was sent before. Where memory runs out, less is said.
+    /// Returns the last output, and the client, which has ended: a line of the server's own, and the close of a web
+    /// socket, unless one was sent before. If an allocation fails, a part of this is missing.
     pub fn part(self, line: &str, ending: Option<Ending>) -> (Client<J>, Vec<u8>)
         ensures { Parts line.now ending self result.0 result.1.items }
     {
@@ -137,7 +151,7 @@ impl<J: HallName> Client<J> {
         (client, text)
     }
 
-    /// The desk, a guest's again.
+    /// Returns the desk, as a guest's.
     pub fn into_desk(self) -> Desk<J>
         ensures { result.state ≡ as_guest self.desk }
     {

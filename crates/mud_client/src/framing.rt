@@ -1,4 +1,4 @@
-//! How the bytes of a client are framed.
+//! The framing of a client's bytes.
 
 ghost use Rattle.std.specs.Prelude.{◌≡◌, ◌++◌, ◌⊎◌, [], OnOk, IfOk, IfErr};
 ghost use Rattle.mud_web.specs.Channel.{IfOver};
@@ -6,33 +6,33 @@ ghost use Rattle.mud_web.specs.Channel.{IfOver};
 use mud_web::{Channel, Ending, Fault, SendFault};
 use std::alloc::{AllocError, Global};
 
-/// How the bytes of a client are framed.
+/// The framing of a client's bytes.
 #[derive(Drop)]
 pub enum Framing {
-    /// By Telnet: as they are.
+    /// Telnet: unchanged.
     Telnet,
-    /// Over a web socket: what is typed and said are text messages.
+    /// A web socket: input and output are text messages.
     Web(Channel),
 }
 
 impl Framing {
     ghost use Rattle.mud_client.specs.Framed.{IsNew, Reads, Breaks, framed, last_words, last_close};
 
-    /// By Telnet.
+    /// Returns the framing of a Telnet client.
     pub fn telnet() -> Framing
         ensures { IsNew result }
     {
         Framing::Telnet
     }
 
-    /// Over a web socket to which nothing came.
+    /// Returns the framing of a web socket in its initial state.
     pub fn web(alloc: Global) -> Framing
         ensures { IsNew result }
     {
         Framing::Web(Channel::new(alloc))
     }
 
-    // Takes in bytes of the other side: what they type is added to `typed`, and the protocol's replies to `replies`.
+    // Consumes input: appends the typed text to `typed`, and the protocol's replies to `replies`.
     pub(crate) fn read(
         &mut self,
         bytes: &[u8],
@@ -53,7 +53,7 @@ impl Framing {
         }
     }
 
-    // A text as it leaves.
+    // Returns a text as it is sent.
     pub(crate) fn frame(&mut self, alloc: Global, text: Vec<u8>) -> Result<Vec<u8>, SendFault>
         ensures text { IfOk result (λ bytes. bytes.items ≡ framed self.old text.items) }
         ensures same { self.new ≡ self.old }
@@ -68,7 +68,7 @@ impl Framing {
         }
     }
 
-    // Adds the last words. Nothing is added where memory runs out.
+    // Appends the last line. If an allocation fails, nothing is appended.
     pub(crate) fn say_last(&mut self, line: &str, out: &mut Vec<u8>)
         ensures said { (out.new.items ≡ out.old.items ++ last_words self.old line.now)
             ⊎ (out.new.items ≡ out.old.items) }
@@ -84,7 +84,7 @@ impl Framing {
         }
     }
 
-    // Adds the close of a web socket, if there is to be one. Nothing is added where memory runs out.
+    // Appends the close of a web socket, if there is one. If an allocation fails, nothing is appended.
     pub(crate) fn close(&mut self, ending: Option<Ending>, out: &mut Vec<u8>)
         ensures { (out.new.items ≡ out.old.items ++ last_close self.old ending) ⊎ (out.new.items ≡ out.old.items) }
     {

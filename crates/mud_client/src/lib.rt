@@ -1,17 +1,16 @@
-//! One client of the server: a session at its desk, and how its bytes are framed.
+//! A client of the server: a session at its desk, and the framing of its bytes.
 //!
-//! A [`Client`] takes in what comes from the other side by `feed`, looks for what others did by `nudge`, and gives what
-//! is to be sent as an [`Outgoing`]. By Telnet and over a web socket it does the same, but for the frames. No socket is
-//! here, and no thread begins.
+//! A [`Client`] consumes input by `feed`, looks for changes of others by `nudge`, and returns its output as an
+//! [`Outgoing`]. It behaves alike for Telnet and for a web socket, except for the frames. It has no socket, and starts
+//! no thread.
 //!
 //! Threads: a client belongs to one thread at a time; the threads of a session share it under a lock of their own. It
-//! owns its session, the bytes that wait to be answered, and the desk with its replica of the world, until `into_desk`
-//! gives the desk back. `feed` answers one line, and may wait for the hall's lock and for workers of a route; `nudge`
-//! waits for nobody.
+//! owns its session, the unanswered input, and the desk with its replica of the world, until `into_desk` returns the
+//! desk. `feed` answers one line, and may block on the hall's lock and on workers of a route; `nudge` never blocks.
 //!
-//! Proved: whatever came to it, and whatever it gave before, after a step its session was typed exactly what came, and
-//! what it gave in all is its greeting and the text of the turns that were played at its desk, framed, with the replies
-//! to the frames that came, each once and in order. Nothing else is given, and nothing is left out.
+//! Proved: after each step the session has received exactly the typed text of all input so far. All output so far is
+//! the greeting and the text of the turns played at the desk, framed, and the replies to the frames received, each once
+//! and in order. There is no other output, and none is missing.
 #![tactic(auto)]
 
 mod client;

@@ -1,11 +1,11 @@
-//! What a step of a client gives.
+//! The result of a client's step.
 
 use mud_journal::{Held, Telling};
 use mud_session::SessionFault;
 use mud_web::SendFault;
 use websocket::error;
 
-/// What clients send: it names no version above a number.
+/// The texts of clients: they name no version above a number.
 pub struct Sayings;
 
 impl Telling for Sayings {
@@ -14,16 +14,16 @@ impl Telling for Sayings {
     ghost up_to = { SaysUpTo };
 }
 
-/// Why a client has ended.
+/// The reason why a client has ended.
 #[derive(Clone, Copy, Debug, PartialEq, Eq)]
 pub enum End {
-    /// The player typed `quit`, and was answered.
+    /// The player typed `quit`, and got the answer.
     Quit,
-    /// Memory ran out for the client itself.
+    /// An allocation failed for the client itself.
     OutOfMemory,
     /// The other side of the web socket closed, or broke a rule of the protocol or a limit.
     Over(error::Error),
-    /// What was said is not ASCII, so it was not sent.
+    /// The output is not ASCII, so it was not sent.
     NotText,
     /// It had ended before.
     Earlier,
@@ -32,7 +32,7 @@ pub enum End {
 impl End {
     ghost use Rattle.mud_client.specs.inner.Talking.{IsRefusal};
 
-    // Why a session takes no more.
+    // Returns the reason why a session accepts no more input.
     pub(crate) fn of_session(fault: SessionFault) -> End
         ensures { IsRefusal result }
     {
@@ -42,7 +42,7 @@ impl End {
         }
     }
 
-    // Why a text was not sent.
+    // Returns the reason why a text was not sent.
     pub(crate) fn of_sending(fault: SendFault) -> End
         ensures { IsRefusal result }
     {
@@ -54,19 +54,19 @@ impl End {
     }
 }
 
-/// What a step gives to be sent, and what came of it.
+/// The output of a step, and its other results.
 #[derive(Drop)]
 pub struct Outgoing {
-    /// What is to be sent, once what it may name is synced.
+    /// The output, withheld until the versions that it can name are synced.
     pub text: Held<Sayings>,
-    /// Why the client has ended, if it has.
+    /// The reason why the client has ended, if it has.
     pub end: Option<End>,
-    /// Whether a line ended in what was answered.
+    /// True if a line ended in the answered input.
     pub has_line: bool,
-    /// Whether lines wait that came already: the next `feed` answers one of them.
+    /// True if more lines wait: the next `feed` answers one of them.
     pub has_more: bool,
-    /// How many entries there are at least, if a change was accepted.
+    /// The least number of entries in the history, if a change was accepted.
     pub accepted: Option<usize>,
-    /// Whether the desk is a player's now.
+    /// True if the desk is a player's now.
     pub has_player: bool,
 }

@@ -1,11 +1,10 @@
-//! The steps of a talk at a desk of a hall.
+//! The steps of a client at a desk of a hall.
 
-ghost use Rattle.std.specs.Prelude.{◌≡◌, ◌≢◌, [], false, is_some, length, None, Some};
+ghost use Rattle.std.specs.Prelude.{◌≡◌, [], false, is_some, length, None, Some};
 ghost use Rattle.mud_web.specs.Channel.{IfOver};
 ghost use Rattle.mud_client.specs.Client.{IsSound};
 ghost use Rattle.mud_client.specs.Sayings.{AreReplies};
-ghost use Rattle.mud_client.specs.Steps.{MatchEnd, AnswersFrames, AnswersLine, IsFedAll, Steps, CutsOff, Looks};
-ghost use Rattle.mud_client.specs.Steps.{Reports};
+ghost use Rattle.mud_client.specs.Steps.{MatchEnd, IsFedAll, Reports};
 ghost use Rattle.mud_client.specs.inner.Talking.{within, Says, IsRefusal};
 
 use crate::client::Client;
@@ -18,16 +17,16 @@ use mud_web::Fault;
 use std::sync::Wait;
 use std::thread::Threads;
 
-/// A desk at its hall, within a step: so many changes were accepted there before.
+/// A desk at its hall inside a step, and the number of changes accepted there before.
 #[derive(Drop)]
 pub(crate) struct Place<'h, J: HallName> {
-    seat: Seat<'h, J>,
+    pub(crate) seat: Seat<'h, J>,
     accepted: usize,
     ghost hall: { seat.capacity ≡ length J.cells },
 }
 
 impl<'h, J: HallName> Place<'h, J> {
-    /// A step begins there.
+    /// Begins a step.
     pub(crate) fn new(seat: Seat<'h, J>) -> Place<'h, J>
         requires { seat.capacity ≡ length J.cells }
         ensures seat { result.seat ≡ seat.entry }
@@ -38,10 +37,10 @@ impl<'h, J: HallName> Place<'h, J> {
     }
 }
 
-// Each step gives the client after it, and what is to be sent.
+// Each step returns the client after it, and its output.
 impl Talk {
-    // The step ends, and gives this.
-    fn end<J: HallName>(
+    /// Ends the step with this output.
+    pub(crate) fn end<J: HallName>(
         self,
         place: Place<'_, J>,
         text: Held<Sayings>,
@@ -75,7 +74,7 @@ impl Talk {
         (client, outgoing)
     }
 
-    /// The step ends undone: nothing is given.
+    /// Ends the step undone, without output.
     pub(crate) fn refuse<J: HallName>(self, place: Place<'_, J>, end: End) -> (Client<J>, Outgoing)
         requires { IsRefusal end }
         ensures refused { MatchEnd result.1.end ⊥ (λ error. ⊥) (result.1.text.text.items ≡ []) }
@@ -86,20 +85,12 @@ impl Talk {
         self.end(place, nothing, Some(end), false)
     }
 
-    // The step ends, and gives the replies to frames.
-    fn reply<J: HallName>(self, place: Place<'_, J>, replies: Vec<u8>) -> (Client<J>, Outgoing)
-        requires sound { ∥ IsSound (within self place.seat false) ∥₁ }
-        requires replies { ∥ AreReplies replies.items ∥₁ }
-        requires some { replies.items ≢ [] }
-        ensures frames { AnswersFrames replies.items (within self place.entry.seat false) result.0 result.1 }
-        ensures end { result.1.end ≡ None }
-        ensures reports { Reports place.entry.accepted result.0 result.1 }
-    {
-        self.end(place, Held::new(replies, 0), None, false)
-    }
-
-    // The step ends, and gives what the session is to say.
-    fn say<J: HallName>(mut self, place: Place<'_, J>, has_line: bool) -> (Client<J>, Outgoing)
+    /// Ends the step with the output of the session.
+    pub(crate) fn say<J: HallName>(
+        mut self,
+        place: Place<'_, J>,
+        has_line: bool,
+    ) -> (Client<J>, Outgoing)
         requires { ∥ IsSound (within self place.seat self.session.has_ended) ∥₁ }
         ensures says { MatchEnd result.1.end
             (Says has_line (within self place.entry.seat self.session.has_ended) result.0 result.1) (λ error. ⊥)
@@ -122,27 +113,9 @@ impl Talk {
         }
     }
 
-    // The first line that waits is answered.
-    fn answer<R: Threads + Wait + Sync, J: HallName>(
-        mut self,
-        rt: &R,
-        mut place: Place<'_, J>,
-    ) -> (Client<J>, Outgoing)
-        requires { ∥ IsSound (within self place.seat false) ∥₁ }
-        ensures answers { MatchEnd result.1.end
-            (AnswersLine (within self place.entry.seat false) result.0 result.1) (λ error. ⊥)
-            (result.1.text.text.items ≡ []) }
-        ensures reports { Reports place.entry.accepted result.0 result.1 }
-    {
-        match self.feed_line(rt, &mut place.seat) {
-            Ok(has_line) => self.say(place, has_line),
-            Err(fault) => self.refuse(place, End::of_session(fault)),
-        }
-    }
-
-    // The channel takes no more, for this fault. Where frames ended the connection, what was typed before is done, and
-    // nobody hears of it; the replies are given.
-    fn cut_off<R: Threads + Wait + Sync, J: HallName>(
+    /// Ends the step after a fault of the channel. If frames ended the connection, the lines typed before are executed
+    /// without answers, and the replies are the output.
+    pub(crate) fn cut_off<R: Threads + Wait + Sync, J: HallName>(
         mut self,
         rt: &R,
         mut place: Place<'_, J>,
@@ -166,46 +139,6 @@ impl Talk {
                 }
                 Err(fault) => self.refuse(place, End::of_session(fault)),
             },
-        }
-    }
-
-    /// Bytes of the other side are taken in.
-    pub(crate) fn take_in<R: Threads + Wait + Sync, J: HallName>(
-        mut self,
-        rt: &R,
-        place: Place<'_, J>,
-        bytes: &[u8],
-    ) -> (Client<J>, Outgoing)
-        requires { ∥ IsSound (within self place.seat false) ∥₁ }
-        ensures steps { MatchEnd result.1.end
-            (Steps bytes.now (within self place.entry.seat false) result.0 result.1)
-            (λ error. CutsOff bytes.now error (within self place.entry.seat false) result.0 result.1)
-            (result.1.text.text.items ≡ []) }
-        ensures reports { Reports place.entry.accepted result.0 result.1 }
-    {
-        let mut replies = Vec::new(self.alloc);
-        match self.framing.read(bytes, &mut self.waiting, &mut replies) {
-            Ok(()) => {
-                if replies.is_empty() {
-                    self.answer(rt, place)
-                } else {
-                    self.reply(place, replies)
-                }
-            }
-            Err(fault) => self.cut_off(rt, place, replies, fault),
-        }
-    }
-
-    /// The session looks for what others did.
-    pub(crate) fn look<J: HallName>(mut self, mut place: Place<'_, J>) -> (Client<J>, Outgoing)
-        requires { ∥ IsSound (within self place.seat false) ∥₁ }
-        ensures looks { MatchEnd result.1.end (Looks (within self place.entry.seat false) result.0 result.1)
-            (λ error. ⊥) (result.1.text.text.items ≡ []) }
-        ensures reports { Reports place.entry.accepted result.0 result.1 }
-    {
-        match self.session.nudge(&mut place.seat) {
-            Ok(()) => self.say(place, false),
-            Err(fault) => self.refuse(place, End::of_session(fault)),
         }
     }
 }

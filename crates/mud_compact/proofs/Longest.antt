@@ -1,4 +1,4 @@
--- The longest front of damaged bytes.
+-- The longest readable prefix of damaged bytes.
 use Rattle.std.proofs.Common.{◌≡◌, ◌≢◌, ℕ, zero, suc, ◌+◌, ◌<◌, ◌≤◌, ◌⊎◌, inl, inr, List, [], ◌∷◌, ◌++◌}
 use Rattle.std.proofs.Common.{length, take, drop, refl, sym, ◌∙◌, ap, arith, subst, append_assoc}
 use Rattle.std.specs.List.{AllByRecursion}
@@ -44,14 +44,14 @@ ended front version (e ∷ es) =
           ∙ ap (λ t. t ++ rest) (sym (append_assoc begun line line_feed)) ∙ more.is;
     }
 
--- what is taken of a longer text begins with the front of it
+-- a prefix of a longer text begins with the text's first part
 take_past : (h t : List ℕ) (n : ℕ) → length h ≤ n → (r : List ℕ) × (take n (h ++ t) ≡ h ++ r)
 take_past [] t n few = (take n t, refl)
 take_past (b ∷ h) t zero few = absurd (omega (arith, few))
 take_past (b ∷ h) t (suc n) few =
     let more = take_past h t n (omega (arith, few)) in (more.0, ap (λ l. b ∷ l) more.1)
 
--- a line feed behind what is kept is one of the torn line's
+-- a line feed after the kept bytes belongs to the torn line
 in_torn : (x rest kept torn : List ℕ) (n : ℕ) → AllByRecursion (λ b. b ≢ LF) torn
     → take n (x ++ LF ∷ rest) ≡ kept ++ torn → length kept ≤ length x → length x < n → ⊥
 in_torn x rest kept torn zero plain is few less = absurd (omega (arith, less))
@@ -76,7 +76,7 @@ long : (format : Format) (entries : List Entry)
 long format entries =
     omega (arith, length_head format, length-append (head_text format) (entries_text 1 entries))
 
--- what begins the bytes is no longer than they are
+-- a prefix of the bytes is no longer than they are
 pub front_within : (bytes : List ℕ) (entries : List Entry) (keep : ℕ) → BeginsWith bytes entries keep
     → keep ≤ length bytes
 front_within bytes entries keep b =
@@ -87,9 +87,9 @@ front_within bytes entries keep b =
       length-append (journal_text b.format entries) b.front.0,
     )
 
--- ---- no journal is longer
+-- ---- no journal that begins the bytes is longer
 
--- of what begins the bytes in the first n of them nothing is longer than what is found there
+-- in the first n bytes, no journal is longer than the one found there
 no_longer : (bytes : List ℕ) (format : Format) (entries : List Entry) (keep n : ℕ)
     → Recovers (take n bytes) format entries keep
     → (others : List Entry) (k : ℕ) → BeginsWith bytes others k → k ≤ n → k ≤ keep
@@ -128,7 +128,7 @@ no_longer bytes format entries keep n r others k b fits = go r.ends (cases_lt ke
         (recursion_from_All (λ c. c ≢ LF) torn unended) (ap (take n) by_end ∙ spelled)
         (omega (arith, keep_is, less, b.keep_is, size)) (omega (arith, fits, b.keep_is, size)))
 
--- nothing that begins the bytes goes on over bytes that can't be read
+-- no journal extends over bytes that can't be read
 before_fault : (bytes : List ℕ) (n : ℕ) → IsFaulty (take n bytes) → (others : List Entry) (k : ℕ)
     → BeginsWith bytes others k → k < n
 before_fault bytes n f others k b = go (cases_lt k n)
@@ -140,7 +140,7 @@ before_fault bytes n f others k b = go (cases_lt k n)
         (ap (take n) (sym b.front.1)
         ∙ take-append-le n (journal_text b.format others) b.front.0 (omega (arith, more, b.keep_is))))
 
--- ---- what is found
+-- ---- the result
 
 begins_of : (bytes : List ℕ) (format : Format) (entries : List Entry) (keep n : ℕ)
     → Recovers (take n bytes) format entries keep → (keep ≡ 0 → ⊥) → BeginsWith bytes entries keep
@@ -160,7 +160,7 @@ begins_of bytes format entries keep n r some = go r.ends
       keep_is = keep_is;
     }
 
--- bytes that can be read whole
+-- bytes that are readable as a whole
 pub whole_longest : (bytes : List ℕ) (format : Format) (entries : List Entry) (keep : ℕ)
     → Recovers bytes format entries keep → (keep ≡ 0 → ⊥) → IsLongestFront bytes entries keep
 whole_longest bytes format entries keep r some =
@@ -178,7 +178,7 @@ pub broken_some : (bytes : List ℕ) → IsBroken bytes → 0 < length bytes
 broken_some bytes b =
     omega (arith, length_head b.format, ap length b.head.1, length-append (head_text b.format) b.head.0)
 
--- nothing is found in no bytes
+-- empty bytes have no entries
 pub nothing_found : (bytes : List ℕ) (entries : List Entry) → entries ≡ [] → Recovers (take 0 bytes) Two entries 0
 nothing_found bytes entries none =
     fronts.found_in_head (take 0 bytes) entries
@@ -188,7 +188,7 @@ nothing_found bytes entries none =
 pub whole_faulty : (bytes : List ℕ) → IsBroken bytes → IsFaulty (take (length bytes) bytes)
 whole_faulty bytes b = subst IsFaulty (sym (take_all (length bytes) bytes (omega arith))) b.faulty
 
--- what was found in front of the byte with which the bytes can't be read
+-- the prefix found before the byte from which the bytes can't be read
 pub found_longest : (bytes : List ℕ) (format : Format) (entries : List Entry) (keep low high : ℕ) → IsBroken bytes
     → Recovers (take low bytes) format entries keep → IsFaulty (take high bytes) → high ≤ low + 1
     → IsLongestFront bytes entries keep

@@ -1,4 +1,4 @@
--- The texts of all records, gone through by number.
+-- The texts of all records, one number after another.
 use Rattle.std.proofs.Common.{◌≡◌, ℕ, ◌+◌, ◌-◌, ◌<◌, ◌≤◌, ◌++◌, ◌∙◌, List, [], ◌∷◌, Some, zero, suc}
 use Rattle.std.proofs.Common.{refl, sym, ap, subst, arith, append_assoc, cond, ⊎_elim}
 use Rattle.std.specs.Prelude.{nat_eq}
@@ -27,7 +27,7 @@ agreeing f g a (suc k) same =
     ap (λ v. v ++ flat_map f (range_with_len (a + 1) k)) (same a (omega arith))
     ∙ ap (λ v. g a ++ v) (agreeing f g (a + 1) k (λ n le. same n (omega (arith, le))))
 
--- after the first record, its number past
+-- after the first record, beyond its number
 past-first : (f : ℕ → Record → List ℕ) (e : ℕ × Record) (es : List (ℕ × Record)) (n : ℕ) → e.0 < n
     → text_at f (e ∷ es) n ≡ text_at f es n
 past-first f e es n less =
@@ -76,7 +76,7 @@ next_row f n end less = go (end - n) (end - (n + 1)) (omega arith)
         let same : j ≡ k = omega arith in
         ap (λ i. f n ++ flat_map f (range_with_len (n + 1) i)) same
 
--- with the text of n after what there was, those that are left are those from n + 1 on
+-- with the text of n appended, the remaining texts are those from n + 1 on
 pub one_more : (f : ℕ → List ℕ) (n end : ℕ) (old new whole : List ℕ) → n < end
     → old ++ flat_map f (range_with_len n (end - n)) ≡ whole → new ≡ old ++ f n
     → new ++ flat_map f (range_with_len (n + 1) (end - (n + 1))) ≡ whole
@@ -85,7 +85,7 @@ one_more f n end old new whole less is more =
     ∙ append_assoc old (f n) (flat_map f (range_with_len (n + 1) (end - (n + 1))))
     ∙ ap (λ v. old ++ v) (next_row f n end less) ∙ is
 
--- after what there was, the texts of all numbers are to come
+-- at first, the texts of all numbers remain
 pub all_left : (f : ℕ → Record → List ℕ) (old : List ℕ) (es : List (ℕ × Record)) (high : ℕ) → IsRising 0 es high
     → old ++ flat_map (text_at f es) (range_with_len 0 (high - 0)) ≡ old ++ flat_map (λ e. f e.0 e.1) es
 all_left f old es high rises =

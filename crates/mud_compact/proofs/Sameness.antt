@@ -1,4 +1,4 @@
--- Texts that are the same, and two worlds of which the same is kept of each number.
+-- Equal texts, and worlds with equal records.
 use Rattle.std.proofs.Common.{◌≡◌, ⊎_elim, ℕ, ◌+◌, ◌<◌, true, false, cond, List, [], ◌∷◌, Option}
 use Rattle.std.proofs.Common.{Some, None, refl, sym, ◌∙◌, ap, subst, arith}
 use Rattle.std.proofs.Common.{Global, String, map}
@@ -14,7 +14,7 @@ use Rattle.mud_compact.proofs.Rows.{found-first}
 use Rattle.mud_world.specs.State.{State, record_at}
 use Rattle.mud_world.specs.Sound.{IsSound, IsRising}
 
--- texts that are equal one by one are the same texts
+-- texts that are equal one by one are equal lists
 pub same_texts : (xs ys : List (String Global)) → pointwise string_eq xs ys ≡ true
     → map string_bytes xs ≡ map string_bytes ys
 same_texts [] [] is = refl
@@ -70,7 +70,7 @@ same_objects low low' high (e ∷ es) (f ∷ fs) rises rises' same =
     other)
     (cases_order e.0 f.0)
 
--- worlds with the same next number, in which the same is kept of each number below it
+-- worlds with equal next numbers, and equal records for each number below it
 pub same_worlds : (w v : State) → IsSound w → IsSound v → w.next ≡ v.next
     → ((n : ℕ) → n < w.next → record_at w n ≡ record_at v n) → w ≡ v
 same_worlds w v sound sound' next same =

@@ -1,4 +1,4 @@
--- What is said and done in words never changes a world.
+-- Talk never changes a world.
 use Rattle.std.proofs.Common.{◌≡◌, ◌≤◌, ◌<◌, ◌+◌, ◌++◌, take, get_or, ℕ, true, false, length, arith, cond, List, []}
 use Rattle.std.proofs.Common.{◌∷◌, None, refl, sym, ◌∙◌, ap, subst}
 use Rattle.std.specs.Prelude.{not, ◌||◌, is_none, if◌then◌else◌}
@@ -20,7 +20,7 @@ use Rattle.mud_compact.specs.Shorter.{is_talk, without_talk, has_talk}
 use Rattle.mud_compact.specs.inner.ShorterHistory.{IsQuiet}
 use Rattle.mud_compact.specs.Laws.{TalkChangesNothing}
 
--- talk leaves the world as it is
+-- talk leaves the world unchanged
 silent : (w : State) (actor : ℕ) (deed : Deed) → is_talk deed ≡ true → deed_result w actor deed ≡ w
 silent w actor (Say text) is = refl
 silent w actor (Emote text) is = refl
@@ -35,11 +35,11 @@ silent w actor (Cost exit cost) is = absurd (true≢false (sym is))
 silent w actor (Rename object names) is = absurd (true≢false (sym is))
 silent w actor (Recycle object) is = absurd (true≢false (sym is))
 
--- a legal change is made
+-- a legal change is applied
 made : (w : State) (c : Change) → refusal w c ≡ None → step_or_same w c ≡ after w c
 made w c legal = ap (λ o. if is_none o then after w c else w) legal
 
--- the shorter entries are legal from here on and lead to where the longer do
+-- the shorter entries are legal from here on, and lead to the same world as the longer ones
 record LeadsOn (w : State) (entries others : List Entry) : Type 0 where
   legal : AreLegalFrom w (changes_of others)
   world : world_from w (changes_of others) ≡ world_from w (changes_of entries)
@@ -89,7 +89,7 @@ fewer_without (e ∷ es) =
     (λ work. subst (λ l. length l ≤ length (e ∷ es))
     (sym (ap (λ b. cond (not b) (e ∷ without_talk es) (without_talk es)) work)) (omega (arith, rest)))
 
--- one entry more
+-- one more entry
 pub without_more : (es : List Entry) (i : ℕ) (d : Entry) → i < length es
     → without_talk (take (i + 1) es)
     ≡ without_talk (take i es) ++ cond (not (is_talk (get_or es i d).change.deed)) (get_or es i d ∷ []) []

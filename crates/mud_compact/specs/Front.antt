@@ -1,4 +1,4 @@
--- What is saved of a damaged journal: the longest front of it whose lines are all right.
+-- The saved part of a damaged journal: its longest readable prefix.
 use Rattle.std.specs.Prelude.{◌≡◌, ◌≤◌, ℕ, ◌+◌, List, length}
 use mathlib.Core.List.{IsPrefix}
 use Rattle.mud_chron.specs.declared.fault.ChronFault.{ChronFault}
@@ -12,19 +12,20 @@ use Rattle.mud_chron.specs.Faults.{IsNoHistory}
 use Rattle.mud_compact.specs.declared.fault.KeptFault.{KeptFault}
 use Rattle.mud_compact.specs.declared.fault.KeptFault.TheVariants.{Empty, Text}
 
--- the bytes begin with the first line and the lines of these entries, which take so many bytes
+-- the bytes begin with the first line and the lines of these entries, whose length is keep
 pub record BeginsWith (bytes : List ℕ) (entries : List Entry) (keep : ℕ) : Type 0 where
   pub format : Format
   pub allowed : AreEntriesOf format entries
   pub front : IsPrefix (journal_text format entries) bytes
   pub keep_is : keep ≡ length (journal_text format entries)
 
--- the bytes begin so, and with no longer text of a journal
+-- the bytes begin in this way, and with no longer text of a journal
 pub record IsLongestFront (bytes : List ℕ) (entries : List Entry) (keep : ℕ) : Type 0 where
   pub begins : BeginsWith bytes entries keep
   pub longest : (others : List Entry) (more : ℕ) → BeginsWith bytes others more → more ≤ keep
 
--- the text is that of the history of the longest front, with its end; the next line is this, and so many bytes are left
+-- the text is the history of the longest readable prefix, with its last line; the next line and the number of remaining
+-- bytes are these
 pub record IsFrontText (bytes text : List ℕ) (line left : ℕ) : Type 0 where
   pub entries : List Entry
   pub keep : ℕ
@@ -33,13 +34,13 @@ pub record IsFrontText (bytes text : List ℕ) (line left : ℕ) : Type 0 where
   pub line_is : line ≡ length entries + 2
   pub left_is : keep + left ≡ length bytes
 
--- there is no front where the first line isn't whole
+-- there is no readable prefix, because the first line is not complete
 abbrev pub HasNoFront : List ℕ → ChronFault → Type 0
 HasNoFront bytes OutOfMemory = Unit {0}
 HasNoFront bytes NotHistory = IsNoHistory bytes
 HasNoFront bytes other = ⊥
 
--- why nothing is saved
+-- the reason why nothing is saved
 abbrev pub IsUnsaved : List ℕ → KeptFault → Type 0
 IsUnsaved bytes Empty = length bytes ≡ 0
 IsUnsaved bytes (Text fault) = HasNoFront bytes fault

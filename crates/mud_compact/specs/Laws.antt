@@ -4,7 +4,7 @@ use Rattle.mud_chron.specs.Entry.{Entry}
 use Rattle.mud_chron.specs.Replay.{changes_of, AreLegal}
 use Rattle.mud_compact.specs.Shorter.{without_talk, LeadsToSame}
 
--- what is said and done in words never changes a world
+-- talk never changes a world
 abbrev pub TalkChangesNothing : Type 0
 TalkChangesNothing =
     (entries : List Entry) → AreLegal (changes_of entries) → LeadsToSame entries (without_talk entries)

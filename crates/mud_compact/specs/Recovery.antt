@@ -1,4 +1,4 @@
--- What is read, and what is recovered.
+-- Reading and recovering files.
 use Rattle.std.specs.Prelude.{◌≡◌, ◌≢◌, ◌<◌, ℕ, ◌+◌, List, length, Option, Some, None}
 use Rattle.mud_chron.specs.declared.fault.ChronFault.{ChronFault}
 use Rattle.mud_chron.specs.declared.fault.ChronFault.TheVariants.{OutOfMemory, NotHistory}
@@ -16,8 +16,8 @@ use Rattle.mud_compact.specs.declared.reading.TextKind.TheVariants.{History, Jou
 use Rattle.mud_compact.specs.declared.fault.KeptFault.{KeptFault}
 use Rattle.mud_compact.specs.declared.fault.KeptFault.TheVariants.{Empty, Text}
 
--- some bytes are a journal, cut at any byte behind its first line, and behind it may stand zeros and anything else.
--- These are the entries whose lines are whole, and so many bytes are none of theirs
+-- non-empty bytes are a journal, cut at any byte after its first line, and zeros and any other bytes may follow. These
+-- are the entries with complete lines, and the number of bytes outside them
 pub record HoldsEntries (bytes : List ℕ) (entries : List Entry) (torn : ℕ) : Type 0 where
   pub some : 0 < length bytes
   pub format : Format
@@ -26,19 +26,19 @@ pub record HoldsEntries (bytes : List ℕ) (entries : List Entry) (torn : ℕ) :
   pub begun : keep ≢ 0
   pub torn_is : keep + torn ≡ length bytes
 
--- the bytes are a history's text of these entries, CRs at the ends of lines aside, or a journal that holds them, and so
--- many of its bytes are torn
+-- the bytes are a history's text of these entries, ignoring CRs at line ends, or a journal with these entries and this
+-- number of torn bytes
 abbrev pub KeepsEntries : TextKind → List ℕ → List Entry → Option ℕ → Type 0
 KeepsEntries History bytes entries None = SpellsHistory (without_returns bytes) entries
 KeepsEntries Journal bytes entries (Some torn) = HoldsEntries bytes entries torn
 KeepsEntries kind bytes entries torn = ⊥
 
--- the fault of bytes that are no journal with a whole first line
+-- the fault of bytes that are not a journal with a complete first line
 abbrev pub HasJournalFault : List ℕ → ChronFault → Type 0
 HasJournalFault bytes NotHistory = IsNoHistory bytes
 HasJournalFault bytes fault = HasFrontFault bytes fault
 
--- the fault of bytes that are no such text, unless memory ran out
+-- the fault of bytes that are not such a text, unless memory ran out
 abbrev pub HasKeptFault : TextKind → List ℕ → KeptFault → Type 0
 HasKeptFault kind bytes Empty = length bytes ≡ 0
 HasKeptFault History bytes (Text fault) =
@@ -46,7 +46,7 @@ HasKeptFault History bytes (Text fault) =
 HasKeptFault Journal bytes (Text fault) =
     fault ≢ OutOfMemory → (0 < length bytes) × HasJournalFault (up_to_zero bytes) fault
 
--- the text is that of the history of the entries that the journal holds, with its end, and so many bytes are torn
+-- the text is that of the history of the journal's entries, with its last line, and this many bytes are torn
 pub record IsRecovered (bytes text : List ℕ) (torn : ℕ) : Type 0 where
   pub entries : List Entry
   pub holds : HoldsEntries bytes entries torn

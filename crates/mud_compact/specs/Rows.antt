@@ -1,4 +1,4 @@
--- The world as a table: a row for each object by rising number, and the next number.
+-- The world as a table: a row for each object, sorted by number, and the next number.
 use Rattle.std.specs.Prelude.{ℕ, List, [], ◌++◌, codes, Option, Some, None}
 use Rattle.std.specs.Fmt.{decimal}
 use Rattle.std.specs.List.{flat_map}
@@ -10,7 +10,7 @@ use Rattle.mud_world.specs.declared.record.Kind.TheVariants.{Room, Exit, Thing, 
 use Rattle.mud_world.specs.declared.record.Record.{Record}
 use Rattle.mud_chron.specs.Text.{line_feed, in_quotes}
 
--- the kind in a word
+-- the kind as a word
 abbrev pub kind_word : Kind → List ℕ
 kind_word Room = codes " room "
 kind_word (Exit p) = codes " exit "
@@ -26,7 +26,7 @@ where_text (Exit p) =
 where_text (Thing place) = codes " in " ++ number_text place
 where_text (Player place) = codes " in " ++ number_text place
 
--- the key, where there is one
+-- the key, if there is one
 abbrev pub lock_text : Option (Tree ℕ) → List ℕ
 lock_text None = []
 lock_text (Some key) = codes " key " ++ printed (by_text key)
@@ -35,10 +35,10 @@ lock_text (Some key) = codes " key " ++ printed (by_text key)
 abbrev pub head_text : ℕ → Record → List ℕ
 head_text n r = number_text n ++ kind_word r.kind ++ in_quotes r.names ++ codes " owner " ++ number_text r.owner
 
--- the row of object n, with its end
+-- the row of object n, with its line end
 abbrev pub row : ℕ → Record → List ℕ
 row n r = head_text n r ++ where_text r.kind ++ lock_text r.key ++ line_feed
 
--- a row for each record, by rising number, and then the next number
+-- a row for each record, sorted by number, and then the next number
 abbrev pub shown_text : State → List ℕ
 shown_text w = flat_map (λ e. row e.0 e.1) w.objects ++ codes "next " ++ number_text w.next ++ line_feed

@@ -1,4 +1,4 @@
-//! What a world's keeper is answered.
+//! The answers to a world's keeper.
 
 ghost use Rattle.std.specs.Prelude.{IfOk, IfErr, string_bytes};
 ghost use Rattle.mud_compact.specs.declared.reading.TextKind.TheVariants.{Journal};
@@ -15,33 +15,33 @@ use mud_chron::{replay, write_history};
 use std::alloc::Global;
 use thiserror::Error;
 
-/// What is told beside a text.
+/// A note beside a text.
 #[derive(Clone, Copy, Debug, PartialEq, Eq, Error)]
 pub enum Note {
-    /// Nothing.
+    /// There is no note.
     #[error("")]
     Nothing,
-    /// So many bytes of a damaged journal were left out, from this line on.
+    /// The first number of bytes of a damaged journal, beginning with the second number's line, were left out.
     #[error("left out: {0} bytes from line {1} on")]
     LeftOut(usize, usize),
-    /// A history of so many changes has so many left.
+    /// A history with the first number of changes has the second number left.
     #[error("changes: {0} before, {1} after\nversions begin anew: check older certificates with the older history")]
     Shortened(usize, usize),
 }
 
-/// A text, and what is told beside it.
+/// A text, and the notes beside it.
 #[derive(Drop)]
 pub struct Answer {
     /// The text.
     pub text: String,
-    /// How many bytes at the end of a journal were torn off; none where that isn't told.
+    /// The number of torn bytes at the end of a journal, if it is reported.
     pub torn: Option<usize>,
-    /// What else is told.
+    /// A further note.
     pub note: Note,
 }
 
-/// The text of the history that the bytes of a journal hold; bytes that are none have a fault. Else the only error is
-/// out of memory (docs/KEEPING.md).
+/// Returns the text of the history in a journal's bytes. Other bytes have a fault; the only other error is out of
+/// memory (docs/KEEPING.md).
 pub fn recovered_text(alloc: Global, bytes: &[u8]) -> Result<Answer, KeptFault>
     ensures ok { IfOk result (λ a. IsRecovery bytes.now (string_bytes a.text) a.torn a.note) }
     ensures err { IfErr result (HasKeptFault Journal bytes.now) }
@@ -54,8 +54,8 @@ pub fn recovered_text(alloc: Global, bytes: &[u8]) -> Result<Answer, KeptFault>
     })
 }
 
-/// The text of the history of the longest front of a damaged journal; bytes without a first line have a fault. Else the
-/// only error is out of memory.
+/// Returns the text of the history in the longest readable prefix of a damaged journal. Bytes without a first line have
+/// a fault; the only other error is out of memory.
 pub fn front_text(alloc: Global, bytes: &[u8]) -> Result<Answer, KeptFault>
     ensures ok { IfOk result (λ a. IsFrontAnswer bytes.now (string_bytes a.text) a.torn a.note) }
     ensures err { IfErr result (IsUnsaved bytes.now) }
@@ -68,8 +68,8 @@ pub fn front_text(alloc: Global, bytes: &[u8]) -> Result<Answer, KeptFault>
     })
 }
 
-/// The text of a shorter history of the same world as that of the bytes of a history or a journal, whichever is said;
-/// bytes that are none, and changes that aren't legal, have a fault. Else the only error is out of memory.
+/// Returns the text of a shorter history of the same world, for the bytes of a history or a journal, as `kind` says.
+/// Other bytes, and illegal changes, have a fault; the only other error is out of memory.
 pub fn shorter_text(alloc: Global, kind: TextKind, bytes: &[u8]) -> Result<Answer, KeptFault>
     ensures ok { IfOk result (λ a. IsShorterAnswer kind bytes.now (string_bytes a.text) a.torn a.note) }
     ensures err { IfErr result (KeepsNoWorld kind bytes.now) }
@@ -85,8 +85,7 @@ pub fn shorter_text(alloc: Global, kind: TextKind, bytes: &[u8]) -> Result<Answe
     })
 }
 
-/// The world of the bytes of a history or a journal, whichever is said, as a table; its faults are those of a shorter
-/// history.
+/// Returns the world of a history or a journal, as `kind` says, as a table. Its faults are those of `shorter_text`.
 pub fn world_table(alloc: Global, kind: TextKind, bytes: &[u8]) -> Result<Answer, KeptFault>
     ensures ok { IfOk result (λ a. IsTable kind bytes.now (string_bytes a.text) a.torn a.note) }
     ensures err { IfErr result (KeepsNoWorld kind bytes.now) }

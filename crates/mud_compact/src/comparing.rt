@@ -1,4 +1,4 @@
-//! Whether two worlds are the same.
+//! Compares two worlds.
 
 ghost use Rattle.std.specs.Prelude.{◌≡◌, true};
 ghost use Rattle.mud_key.specs.Node.{key_of};
@@ -7,7 +7,7 @@ ghost use Rattle.mud_world.specs.State.{record_at};
 use mud_key::{Key, Names, Node};
 use mud_world::{Record, World};
 
-// Whether the keys are the same, node by node.
+// Returns whether the keys are equal, node by node.
 fn same_nodes(node: &Node<u32>, other: &Node<u32>) -> bool
     ensures { result ≡ true → key_of node.now ≡ key_of other.now }
 {
@@ -25,7 +25,7 @@ fn same_nodes(node: &Node<u32>, other: &Node<u32>) -> bool
     }
 }
 
-// Whether the keys are the same, where there are any.
+// Returns whether the keys are equal, if there are any.
 fn same_keys(key: &Option<Key>, other: &Option<Key>) -> bool
     ensures { result ≡ true → key.now ≡ other.now }
 {
@@ -36,7 +36,7 @@ fn same_keys(key: &Option<Key>, other: &Option<Key>) -> bool
     }
 }
 
-// Whether the names are the same.
+// Returns whether the names are equal.
 #[tactic(auto, using(crate::proofs::Sameness::same_texts))]
 fn same_names(names: &Names, others: &Names) -> bool
     ensures { result ≡ true → names.now ≡ others.now }
@@ -44,7 +44,7 @@ fn same_names(names: &Names, others: &Names) -> bool
     names.list() == others.list()
 }
 
-// Whether the records are the same.
+// Returns whether the records are equal.
 fn same_records(one: &Record, other: &Record) -> bool
     ensures { result ≡ true → one.now ≡ other.now }
 {
@@ -57,7 +57,7 @@ fn same_records(one: &Record, other: &Record) -> bool
     same_keys(&one.key, &other.key)
 }
 
-// Whether the same is kept of the number in both worlds.
+// Returns whether the number has equal records in both worlds.
 fn same_at(world: &World, other: &World, number: u32) -> bool
     ensures { result ≡ true → record_at world.now number ≡ record_at other.now number }
 {
@@ -68,7 +68,7 @@ fn same_at(world: &World, other: &World, number: u32) -> bool
     }
 }
 
-// Whether the worlds are the same: each record by number, and the next number.
+// Returns whether the worlds are equal: each record by number, and the next number.
 #[tactic(auto, using(crate::proofs::Sameness::same_worlds))]
 pub(crate) fn same_worlds(world: &World, other: &World) -> bool
     ensures { result ≡ true → world.now ≡ other.now }
@@ -81,7 +81,7 @@ pub(crate) fn same_worlds(world: &World, other: &World) -> bool
             return false;
         }
     }
-    // for the prover: `next_number` says that the other world is sound
+    // for the prover: `next_number` shows that the other world is sound
     let _known = other.next_number();
     true
 }

@@ -1,14 +1,14 @@
-//! Why a file keeps no world.
+//! The reasons why a file has no world.
 
 use mud_chron::ChronFault;
 use std::alloc::AllocError;
 
-/// Why nothing is read in the bytes of a file.
+/// The reason why the bytes of a file can't be read.
 #[derive(Debug, Drop)]
 pub enum KeptFault {
-    /// There are no bytes.
+    /// The file is empty.
     Empty,
-    /// The bytes, or the changes that they spell, have this fault, or memory ran out.
+    /// The bytes, or the changes in them, have this fault, or an allocation failed.
     Text(ChronFault),
 }
 

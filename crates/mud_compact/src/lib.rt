@@ -1,17 +1,17 @@
-//! What the keeper of a world does with its history.
+//! The keeper's operations on the history of a world.
 //!
-//! | Calls | Answer |
+//! | Calls | Result |
 //! |---|---|
 //! | `read_kept` | the entries of a history, or of a journal that was cut at any byte |
-//! | `recover` | the history's text that a journal holds, and how many bytes of it were torn |
-//! | `save_front` | the history's text of the longest front of a damaged journal, and what is left out |
-//! | `shorten` | a history of the same world that is no longer, and in which nobody talks |
+//! | `recover` | the text of the history in a journal, and the number of torn bytes |
+//! | `save_front` | the text of the history in the longest readable prefix of a damaged journal, and what is left out |
+//! | `shorten` | a history of the same world that is no longer, and has no talk |
 //! | `show` | the world as a table |
-//! | `recovered_text`, `front_text`, `shorter_text`, `world_table` | the same from bytes to a text, and what is told |
+//! | `recovered_text`, `front_text`, `shorter_text`, `world_table` | the same from bytes to a text and its notes |
 //!
-//! Proved is that each call answers by its definition. That talk never changes a world is the contract of [`laws`]. How
-//! `shorten` chooses what to leave out is not proved: `mud_compact_plan` builds a world again, and the two worlds are
-//! compared here. Where they differ, or nothing is gained, only talk is left out.
+//! Proved: each call returns the value of its definition. The contract of [`laws`] states that talk never changes a
+//! world. The choices of `shorten` are not proved: `mud_compact_plan` rebuilds a world, and the two worlds are compared
+//! here. If they differ, or nothing is gained, only talk is left out.
 #![tactic(auto)]
 
 mod answering;

@@ -1,4 +1,4 @@
-//! What is read of a history or a journal.
+//! Reads a history or a journal.
 
 ghost use Rattle.std.specs.Prelude.{◌≢◌, ◌≤◌, ◌<◌, length, IfOk, IfErr, string_bytes};
 ghost use Rattle.mud_world.specs.declared.limits.TheConstants.{MOST_ENTRIES};
@@ -15,25 +15,26 @@ use mud_checker::without_returns;
 use mud_chron::{ChronFault, Entry, before_zero, read_front, read_history, write_history};
 use std::alloc::Global;
 
-/// What the bytes of a file are taken for.
+/// The kind of a file.
 #[derive(Clone, Copy, Debug, PartialEq, Eq)]
 pub enum TextKind {
-    /// A history, with its last line. A CR directly before LF is dropped, as `mud_check` drops it.
+    /// A history, with its last line. A CR directly before LF is dropped, as by `mud_check`.
     History,
-    /// A journal, which may be cut at any byte. A history that was cut is one, too, so only its owner can tell.
+    /// A journal, which may be cut at any byte. So may a history be, and only the owner of the file can tell them
+    /// apart.
     Journal,
 }
 
-/// What is read of a file.
+/// The contents of a file.
 #[derive(Drop)]
 pub struct Kept {
     /// The entries, at most 65,536.
     pub entries: Vec<Entry>,
-    /// How many bytes at the end of a journal are none of theirs; none of a history.
+    /// The number of torn bytes at the end of a journal; `None` for a history.
     pub torn: Option<usize>,
 }
 
-// The entries of a history's text, in either format, CRs at the ends of its lines aside.
+// Returns the entries of a history's text, in either format, ignoring CRs at line ends.
 fn history_entries(alloc: Global, bytes: &[u8]) -> Result<Vec<Entry>, ChronFault>
     ensures few { IfOk result (λ entries. length entries.items ≤ MOST_ENTRIES) }
     ensures ok { IfOk result (λ entries. SpellsHistory (without_returns bytes.now) entries.items) }
@@ -44,7 +45,7 @@ fn history_entries(alloc: Global, bytes: &[u8]) -> Result<Vec<Entry>, ChronFault
     read_history(alloc, &bytes)
 }
 
-// The entries whose lines are whole in a journal that has some bytes, and how many bytes are none of theirs.
+// Returns the entries with complete lines in a non-empty journal, and the number of torn bytes.
 fn journal_entries(alloc: Global, bytes: &[u8]) -> Result<(Vec<Entry>, usize), ChronFault>
     requires { 0 < length bytes.now }
     ensures few { IfOk result (λ held. length held.0.items ≤ MOST_ENTRIES) }
@@ -61,9 +62,9 @@ fn journal_entries(alloc: Global, bytes: &[u8]) -> Result<(Vec<Entry>, usize), C
     Ok((front.entries, torn))
 }
 
-/// The entries of a file's bytes, which are taken for what is said: the text of a history in either format, or a
-/// journal that was cut at any byte (docs/KEEPING.md). Bytes that are no such text have its fault, and no bytes are
-/// `Empty`. Else the only error is out of memory.
+/// Reads the entries of a file, as `kind` says: the text of a history in either format, or a journal that was cut at
+/// any byte (docs/KEEPING.md). Other bytes have their fault, and an empty file is `Empty`. The only other error is out
+/// of memory.
 pub fn read_kept(alloc: Global, kind: TextKind, bytes: &[u8]) -> Result<Kept, KeptFault>
     ensures few { IfOk result (λ kept. length kept.entries.items ≤ MOST_ENTRIES) }
     ensures ok { IfOk result (λ kept. KeepsEntries kind bytes.now kept.entries.items kept.torn) }
@@ -90,18 +91,18 @@ pub fn read_kept(alloc: Global, kind: TextKind, bytes: &[u8]) -> Result<Kept, Ke
     }
 }
 
-/// What a journal holds.
+/// The contents of a journal.
 #[derive(Drop)]
 pub struct Recovered {
-    /// The text of its history in format 2, with its end.
+    /// The text of its history in format 2, with its last line.
     pub text: String,
-    /// How many bytes were torn off: those of a line that had not ended, and all from the first zero on.
+    /// The number of torn bytes: those of an incomplete line, and all from the first zero on.
     pub torn: usize,
 }
 
-/// The history that a journal holds which was cut at any byte, and how many bytes were torn off (docs/HISTORY.md,
-/// "Journals"). Bytes without a whole first line are `NotHistory`, other bytes have the fault that a server finds, and
-/// no bytes are `Empty`. Else the only error is out of memory.
+/// Returns the history in a journal that was cut at any byte, and the number of torn bytes (docs/HISTORY.md,
+/// "Journals"). Bytes without a complete first line are `NotHistory`, other bytes have the fault that a server finds,
+/// and an empty file is `Empty`. The only other error is out of memory.
 pub fn recover(alloc: Global, bytes: &[u8]) -> Result<Recovered, KeptFault>
     ensures ok { IfOk result (λ r. IsRecovered bytes.now (string_bytes r.text) r.torn) }
     ensures err { IfErr result (HasKeptFault Journal bytes.now) }

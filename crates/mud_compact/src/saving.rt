@@ -1,4 +1,4 @@
-//! What can be saved of a damaged journal.
+//! Saves the readable part of a damaged journal.
 
 ghost use Rattle.std.specs.Prelude.{◌≡◌, ◌≢◌, ◌<◌, ◌+◌, [], IfOk, IfErr, MatchOption, string_bytes};
 ghost use Rattle.mud_chron.specs.declared.format.Format.TheVariants.{Two};
@@ -12,7 +12,7 @@ use mud_key::codes::LF;
 use mud_world::limits::MOST_ENTRIES;
 use std::alloc::{AllocError, Global};
 
-// Where this line, counted from 1, ends: at its line feed, or with the bytes.
+// Returns the end of this line, counted from 1: its line feed, or the end of the bytes.
 fn end_of_line(bytes: &[u8], line: usize) -> usize {
     let mut left = line;
     for (at, byte) in bytes.iter().enumerate() {
@@ -26,8 +26,8 @@ fn end_of_line(bytes: &[u8], line: usize) -> usize {
     bytes.len()
 }
 
-// Which front is tried between one that can be read and one that can't: where the bad line seems to end, then with its
-// end, and else half way.
+// Returns the next prefix to try between a readable and an unreadable one: where the bad line seems to end, then with
+// its end, and otherwise half way.
 fn probe(low: usize, high: usize, guess: usize) -> usize
     requires { low + 1 < high }
     ensures above { low < result }
@@ -43,7 +43,7 @@ fn probe(low: usize, high: usize, guess: usize) -> usize
     low + (high - low) / 2
 }
 
-// What is found where nothing is read.
+// Returns the result for nothing readable.
 fn nothing(alloc: Global) -> Front
     ensures entries { result.entries.items ≡ [] }
     ensures format { result.format ≡ Two }
@@ -56,7 +56,7 @@ fn nothing(alloc: Global) -> Front
     }
 }
 
-// What is found in a journal that was cut at any byte; nothing in other bytes.
+// Returns the contents of a journal that was cut at any byte, and none for other bytes.
 fn found_in(alloc: Global, bytes: &[u8]) -> Result<Option<Front>, AllocError>
     ensures { IfOk result (λ found. MatchOption found (IsFaulty bytes.now)
         (λ f. Recovers bytes.now f.format f.entries.items f.keep)) }
@@ -68,8 +68,8 @@ fn found_in(alloc: Global, bytes: &[u8]) -> Result<Option<Front>, AllocError>
     }
 }
 
-// The longest front that can be read of bytes with a bad line, maybe the one that is said. Two more fronts are read
-// where that is so.
+// Returns the longest readable prefix of bytes with a bad line, trying the one before `line` first. If that is right,
+// it reads two more prefixes.
 fn front_of_broken(alloc: Global, bytes: &[u8], line: usize) -> Result<Front, AllocError>
     requires { IsBroken bytes.now }
     ensures { IfOk result (λ front. IsLongestFront bytes.now front.entries.items front.keep) }
@@ -91,7 +91,7 @@ fn front_of_broken(alloc: Global, bytes: &[u8], line: usize) -> Result<Front, Al
     Ok(front)
 }
 
-// The longest front of bytes that have this fault.
+// Returns the longest readable prefix of bytes with this fault.
 fn front_before(alloc: Global, bytes: &[u8], fault: ChronFault) -> Result<Front, ChronFault>
     requires { fault ≢ ChronFault.OutOfMemory → HasFrontFault bytes.now fault }
     ensures ok { IfOk result (λ front. IsLongestFront bytes.now front.entries.items front.keep) }
@@ -106,7 +106,7 @@ fn front_before(alloc: Global, bytes: &[u8], fault: ChronFault) -> Result<Front,
     }
 }
 
-// The longest front of the bytes.
+// Returns the longest readable prefix of the bytes.
 fn longest_front(alloc: Global, bytes: &[u8]) -> Result<Front, ChronFault>
     ensures ok { IfOk result (λ front. IsLongestFront bytes.now front.entries.items front.keep) }
     ensures err { IfErr result (HasNoFront bytes.now) }
@@ -122,20 +122,20 @@ fn longest_front(alloc: Global, bytes: &[u8]) -> Result<Front, ChronFault>
     }
 }
 
-/// What is saved of a damaged journal.
+/// The saved part of a damaged journal.
 #[derive(Drop)]
 pub struct Saved {
-    /// The text of the history of its longest front, in format 2, with its end.
+    /// The text of the history in its longest readable prefix, in format 2, with its last line.
     pub text: String,
-    /// The first line that is left out, counted from 1.
+    /// The first line left out, counted from 1.
     pub line: usize,
-    /// How many bytes are left out, from that line on.
+    /// The number of bytes left out, from that line on.
     pub left: usize,
 }
 
-/// The history of the longest front of a journal whose lines are all right, whatever stands behind it, and what is left
-/// out (docs/KEEPING.md, "Recover"). Where not even the first line is whole that is the fault, and where there are no
-/// bytes. Else the only error is out of memory.
+/// Returns the history in the longest readable prefix of a journal, whatever follows it, and what is left out
+/// (docs/KEEPING.md, "Recover"). Bytes without a complete first line have a fault, and so has an empty file. The only
+/// other error is out of memory.
 pub fn save_front(alloc: Global, bytes: &[u8]) -> Result<Saved, KeptFault>
     ensures ok { IfOk result (λ s. IsFrontText bytes.now (string_bytes s.text) s.line s.left) }
     ensures err { IfErr result (IsUnsaved bytes.now) }

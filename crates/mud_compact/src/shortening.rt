@@ -1,4 +1,4 @@
-//! A shorter history of the same world, as long as one is found.
+//! Finds shorter histories of the same world, repeatedly.
 
 ghost use Rattle.std.specs.Prelude.{◌≡◌, true, IfOk, IfErr, IfSome};
 ghost use Rattle.mud_chron.specs.Replay.{HasIllegal};
@@ -12,7 +12,7 @@ use mud_compact_plan::{Gone, build_again};
 use mud_world::World;
 use std::alloc::{AllocError, Global};
 
-// Whether these entries are legal and lead to this world.
+// Returns whether these entries are legal and lead to this world.
 fn leads_to(alloc: Global, entries: &[Entry], world: &World) -> Result<bool, AllocError>
     ensures { IfOk result (λ leads. leads ≡ true → LeadsTo entries.now world.now) }
 {
@@ -23,7 +23,7 @@ fn leads_to(alloc: Global, entries: &[Entry], world: &World) -> Result<bool, All
     }
 }
 
-// The history that was found, if it is shorter than these entries, has no talk, and leads to this world.
+// Returns the history that was found, if it is shorter than these entries, has no talk, and leads to this world.
 fn shorter_of(
     alloc: Global,
     found: Vec<Entry>,
@@ -41,8 +41,8 @@ fn shorter_of(
     Ok(Some(found))
 }
 
-// A history of this world that is shorter than these entries, where one is found that is built anew without these of
-// the changes whose objects are gone.
+// Returns a history of this world that is shorter than these entries, if rebuilding it without changes of this kind
+// whose objects are gone gives one.
 fn shorter_without(
     alloc: Global,
     gone: Gone,
@@ -57,7 +57,7 @@ fn shorter_without(
     }
 }
 
-// A history of this world that is shorter than these entries, where one is found.
+// Returns a history of this world that is shorter than these entries, if one is found.
 fn shorter(
     alloc: Global,
     entries: &[Entry],
@@ -71,9 +71,9 @@ fn shorter(
     shorter_without(alloc, Gone::Things, entries, world)
 }
 
-/// A history of the same world that is no longer, and in which nobody talks (docs/KEEPING.md, "Shorten"). What can be
-/// left out besides talk is tried as long as that makes it shorter: so of what it answers it answers the same. Where
-/// an entry isn't legal where it stands, the first such is `BadChange`. Else the only error is out of memory.
+/// Returns a history of the same world that is no longer, and has no talk (docs/KEEPING.md, "Shorten"). It repeats as
+/// long as the history gets shorter, so it is idempotent. `BadChange` names the first entry whose change is illegal
+/// where it occurs. The only other error is out of memory.
 pub fn shorten(alloc: Global, entries: &[Entry]) -> Result<Vec<Entry>, ChronFault>
     ensures ok { IfOk result (λ s. IsShortened entries.now s.items) }
     ensures err { IfErr result (HasIllegal entries.now) }

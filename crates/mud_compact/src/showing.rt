@@ -17,7 +17,7 @@ fn push_number(out: &mut String, number: u32) -> Result<(), AllocError>
     write!(out, "#{number}")
 }
 
-// A word and the number of an object.
+// Appends a word and the number of an object.
 fn push_object(out: &mut String, word: &str, number: u32) -> Result<(), AllocError>
     ensures { OnOk result (string_bytes out.new ≡ string_bytes out.old ++ word.now ++ number_text number) }
 {
@@ -36,7 +36,7 @@ fn word_of(kind: Kind) -> &'static str
     }
 }
 
-// The place, or the ends and the cost.
+// Appends the place, or the ends and the cost.
 fn push_where(out: &mut String, kind: Kind) -> Result<(), AllocError>
     ensures { OnOk result (string_bytes out.new ≡ string_bytes out.old ++ where_text kind) }
 {
@@ -52,7 +52,7 @@ fn push_where(out: &mut String, kind: Kind) -> Result<(), AllocError>
     }
 }
 
-// The key, where there is one.
+// Appends the key, if there is one.
 fn push_lock(alloc: Global, out: &mut String, key: &Option<Key>) -> Result<(), AllocError>
     ensures { OnOk result (string_bytes out.new ≡ string_bytes out.old ++ lock_text key.now) }
 {
@@ -64,7 +64,7 @@ fn push_lock(alloc: Global, out: &mut String, key: &Option<Key>) -> Result<(), A
     out.push_str(text.as_str())
 }
 
-// The number of an object, its kind, its names and its owner.
+// Appends the number of an object, its kind, its names and its owner.
 fn push_head(alloc: Global, out: &mut String, number: u32, kept: &Record) -> Result<(), AllocError>
     ensures { OnOk result (string_bytes out.new ≡ string_bytes out.old ++ head_text number kept.now) }
 {
@@ -74,7 +74,7 @@ fn push_head(alloc: Global, out: &mut String, number: u32, kept: &Record) -> Res
     push_object(out, " owner ", kept.owner)
 }
 
-// The row of an object, with its end.
+// Appends the row of an object, with its line end.
 fn push_row(alloc: Global, out: &mut String, number: u32, kept: &Record) -> Result<(), AllocError>
     ensures { OnOk result (string_bytes out.new ≡ string_bytes out.old ++ row number kept.now) }
 {
@@ -84,7 +84,7 @@ fn push_row(alloc: Global, out: &mut String, number: u32, kept: &Record) -> Resu
     out.push_str("\n")
 }
 
-// The row of an object, if it exists.
+// Appends the row of an object, if it exists.
 fn push_row_at(
     alloc: Global,
     out: &mut String,
@@ -100,9 +100,9 @@ fn push_row_at(
     }
 }
 
-/// The world as a table: a row for each object by rising number, with its kind, its names, its owner, its place or its
-/// ends and cost, and its key, and after them the next number (docs/KEEPING.md, "Show"). The only error is out of
-/// memory.
+/// Returns the world as a table, with a row for each object, sorted by number, and the next number at the end. A row
+/// has the object's kind, its names, its owner, its place or its ends and cost, and its key (docs/KEEPING.md, "Show").
+/// The only error is out of memory.
 pub fn show(alloc: Global, world: &World) -> Result<String, AllocError>
     ensures { IfOk result (λ text. string_bytes text ≡ shown_text world.now) }
 {

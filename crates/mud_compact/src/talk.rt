@@ -1,4 +1,4 @@
-//! What is said and done in words.
+//! Talk: speeches and emotes.
 
 ghost use Rattle.std.specs.Prelude.{◌≡◌, IfOk};
 ghost use Rattle.mud_compact.specs.Shorter.{is_talk, without_talk, has_talk};
@@ -8,21 +8,21 @@ use mud_chron::Entry;
 use mud_world::Deed;
 use std::alloc::{AllocError, Global};
 
-// Whether it is said, or done in words.
+// Returns whether it is a speech or an emote.
 pub(crate) fn is_talk(deed: &Deed) -> bool
     ensures { result ≡ is_talk deed.now }
 {
     matches!(deed, Deed::Say(_) | Deed::Emote(_))
 }
 
-// Whether an entry is talk.
+// Returns whether an entry is talk.
 fn is_talk_entry(entry: &Entry) -> bool
     ensures { result ≡ is_talk entry.now.change.deed }
 {
     is_talk(&entry.change().deed)
 }
 
-// Whether some entry is talk.
+// Returns whether some entry is talk.
 pub(crate) fn has_talk(entries: &[Entry]) -> bool
     ensures { result ≡ has_talk entries.now }
 {
@@ -34,7 +34,7 @@ pub(crate) fn has_talk(entries: &[Entry]) -> bool
     false
 }
 
-// The entries that are no talk.
+// Returns the entries that are not talk.
 #[tactic(auto, using(crate::proofs::Talking::without_more))]
 fn work_of(alloc: Global, entries: &[Entry]) -> Result<Vec<Entry>, AllocError>
     ensures { IfOk result (λ kept. kept.items ≡ without_talk entries.now) }
@@ -48,7 +48,7 @@ fn work_of(alloc: Global, entries: &[Entry]) -> Result<Vec<Entry>, AllocError>
     Ok(kept)
 }
 
-/// The entries without what is said and done in words. The only error is out of memory.
+/// Returns the entries without talk. The only error is out of memory.
 #[tactic(auto, using(crate::proofs::Talking::quiet))]
 pub(crate) fn without_talk(alloc: Global, entries: &[Entry]) -> Result<Vec<Entry>, AllocError>
     ensures { IfOk result (λ kept. IsQuiet entries.now kept.items) }

@@ -1,4 +1,4 @@
--- What is legal can be spelled.
+-- A legal change is spellable.
 use Rattle.std.proofs.Common.{◌≡◌, ◌≤◌, ℕ, None}
 use Rattle.mud_world.specs.State.{State}
 use Rattle.mud_world.specs.Sound.{IsSound}

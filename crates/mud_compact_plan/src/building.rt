@@ -1,5 +1,5 @@
-//! A world that is built again: what is made comes as it came, with the names that it has in the end, and between
-//! that only what is needed.
+//! Rebuilds a world: objects are made in their old order with their final names, and in between only the necessary
+//! changes are made.
 
 ghost use Rattle.std.specs.Prelude.{◌≤◌};
 ghost use Rattle.mud_chron.specs.declared.limits.TheConstants.{MOST_DESKS};
@@ -14,24 +14,24 @@ use mud_key::{Name, Names, NamesFault};
 use mud_world::{Change, Deed, Doors, Record, Target, World};
 use std::alloc::{AllocError, Global};
 
-// The desk that makes what is no entry of the old history.
+// The desk of entries that the old history does not have.
 const DESK: u32 = 1;
 
 // The player who may change and recycle all objects.
 const WIZARD: u32 = 1;
 
-// What an object is called that only takes a number.
+// The name of an object that only takes a number.
 const SPARE: &str = "gone";
 
-// How many numbers a dig takes at most: a room, an exit and an exit back.
+// The greatest number of objects that a dig makes: a room, an exit and an exit back.
 const MOST_DUG: u32 = 3;
 
-// Whether the names are the same.
+// Returns whether the names are equal.
 fn same_names(names: &Names, others: &Names) -> bool {
     names.list() == others.list()
 }
 
-// A world that is built again, towards a goal.
+// A world that is rebuilt towards a goal.
 #[derive(Drop)]
 struct Site<'a> {
     alloc: Global,
@@ -52,19 +52,19 @@ impl Site<'_> {
         if self.world.legal(&change).is_err() {
             return Err(Stop::GivenUp);
         }
-        // for the prover: `next_number` says that the world is sound
+        // for the prover: `next_number` shows that the world is sound
         let _known = self.world.next_number();
         self.world.apply(&change)?;
         self.add(Entry::new(desk, change))
     }
 
-    // Adds an entry, whose change is made.
+    // Appends an entry whose change is made.
     fn add(&mut self, entry: Entry) -> Result<(), Stop> {
         self.entries.push(entry)?;
         Ok(())
     }
 
-    // The player walks to the room.
+    // Walks the player to the room.
     fn walk_to(&mut self, player: u32, room: u32) -> Result<(), Stop> {
         let Some(here) = self.world.place(player) else {
             return Err(Stop::GivenUp);
@@ -81,7 +81,7 @@ impl Site<'_> {
         Ok(())
     }
 
-    // A player moves a thing.
+    // Makes a player move a thing.
     fn deliver(&mut self, step: Delivery) -> Result<(), Stop> {
         if let Some(room) = step.room {
             self.walk_to(step.actor, room)?;
@@ -93,7 +93,7 @@ impl Site<'_> {
         self.act(DESK, step.actor, Deed::Move { thing, to })
     }
 
-    // The names that the object has in the end; these, where it is gone.
+    // Returns the final names of the object, or these if it is gone.
     fn names(&self, number: u32, names: &Names) -> Result<Names, AllocError> {
         match self.goal.get(number) {
             Some(record) => record.names.copy(self.alloc),
@@ -101,7 +101,7 @@ impl Site<'_> {
         }
     }
 
-    // The first name that the player has in the end.
+    // Returns the final first name of the player.
     fn name(&self, number: u32, name: &Name) -> Result<Name, AllocError> {
         if let Some(record) = self.goal.get(number) {
             if let Ok(first) = Name::read(self.alloc, &record.names.list()[0]) {
@@ -111,7 +111,7 @@ impl Site<'_> {
         name.copy(self.alloc)
     }
 
-    // The target of a dig, with the names that it has in the end.
+    // Returns the target of a dig with its final names.
     fn target(&self, target: &Target) -> Result<Target, AllocError> {
         match target {
             Target::New(names) => Ok(Target::New(self.names(self.world.next_number(), names)?)),
@@ -119,7 +119,7 @@ impl Site<'_> {
         }
     }
 
-    // The exits of a dig, of which the first gets this number, with the names that they have in the end.
+    // Returns the exits of a dig with their final names; the first one gets this number.
     fn doors(&self, number: u32, doors: &Option<Doors>) -> Result<Option<Doors>, AllocError> {
         let Some(doors) = doors else {
             return Ok(None);
@@ -132,7 +132,7 @@ impl Site<'_> {
         Ok(Some(Doors { out, back }))
     }
 
-    // The names of an object that only takes a number.
+    // Returns the names of an object that only takes a number.
     fn spare_names(&self) -> Result<Names, Stop> {
         match Names::read(self.alloc, SPARE) {
             Ok(names) => Ok(names),
@@ -141,7 +141,7 @@ impl Site<'_> {
         }
     }
 
-    // So many exits that only take numbers, up to two.
+    // Returns `count` exits that only take numbers, at most two.
     fn spare_doors(&self, count: u32) -> Result<Option<Doors>, Stop> {
         if count == 0 {
             return Ok(None);
@@ -154,7 +154,7 @@ impl Site<'_> {
         Ok(Some(Doors { out, back }))
     }
 
-    // The exits of a dig, and those that it can have besides, if the numbers from this one on only have to be taken.
+    // Returns the exits of a dig, with further ones if the numbers from this one on only have to be taken.
     fn with_spares(&self, doors: Option<Doors>, behind: u32) -> Result<Option<Doors>, Stop> {
         match doors {
             None => self.spare_doors(self.spares.run(behind, 2)),
@@ -166,7 +166,7 @@ impl Site<'_> {
         }
     }
 
-    // Takes the numbers that come next and only have to be taken.
+    // Takes the next numbers that only have to be taken.
     fn take_spares(&mut self) -> Result<(), Stop> {
         for _ in 0..self.goal.next_number() {
             let count = self.spares.run(self.world.next_number(), MOST_DUG);
@@ -180,7 +180,7 @@ impl Site<'_> {
         Ok(())
     }
 
-    // Whether it bears on the goal from which room these exits lead, of which the first gets this number.
+    // Returns whether the goal depends on the room that these exits leave; the first one gets this number.
     fn is_bound(&self, number: u32, doors: &Option<Doors>) -> bool {
         match doors {
             None => false,
@@ -192,7 +192,7 @@ impl Site<'_> {
         }
     }
 
-    // Digs what the entry digs, the actor in this room.
+    // Makes the entry's dig, with the actor in this room.
     fn dig(
         &mut self,
         entry: &Entry,
@@ -215,8 +215,8 @@ impl Site<'_> {
         self.act(entry.desk(), actor, Deed::Dig(target, doors))
     }
 
-    // Makes what the entry makes, the first object of this number, the actor in this room. Nothing is made of what is
-    // gone and only takes numbers.
+    // Makes the entry's objects, the first with this number, with the actor in this room. Objects that are gone and
+    // only take numbers are skipped.
     fn make_from(&mut self, entry: &Entry, number: u32, here: u32) -> Result<(), Stop> {
         if count_made(&entry.change().deed) == 0 || self.spares.has(number) {
             return Ok(());
@@ -225,7 +225,7 @@ impl Site<'_> {
         self.make(entry, here)
     }
 
-    // Makes what the entry makes, if it makes objects, the actor in this room.
+    // Makes the entry's objects, if it makes any, with the actor in this room.
     fn make(&mut self, entry: &Entry, here: u32) -> Result<(), Stop> {
         let change = entry.change();
         let next = self.world.next_number();
@@ -243,7 +243,7 @@ impl Site<'_> {
         }
     }
 
-    // Gives an object the names that it has in the end.
+    // Gives an object its final names.
     fn rename(&mut self, object: u32) -> Result<(), Stop> {
         let (Some(goal), Some(record)) = (self.goal.get(object), self.world.get(object)) else {
             return Ok(());
@@ -255,7 +255,7 @@ impl Site<'_> {
         self.act(DESK, WIZARD, Deed::Rename { object, names })
     }
 
-    // Gives an exit the cost that it has in the end.
+    // Gives an exit its final cost.
     fn cost(&mut self, exit: u32) -> Result<(), Stop> {
         let (Some(goal), Some(passage)) = (self.goal.passage(exit), self.world.passage(exit)) else {
             return Ok(());
@@ -267,7 +267,7 @@ impl Site<'_> {
         self.act(DESK, WIZARD, Deed::Cost { exit, cost })
     }
 
-    // Gives an object the key that it has in the end.
+    // Gives an object its final key.
     fn lock(&mut self, object: u32) -> Result<(), Stop> {
         let Some(Record { key: Some(key), .. }) = self.goal.get(object) else {
             return Ok(());
@@ -276,7 +276,7 @@ impl Site<'_> {
         self.act(DESK, WIZARD, Deed::Lock { object, key })
     }
 
-    // Gives an object its names and its cost, and a player his place, as they are in the end.
+    // Gives an object its final names and cost, and a player its final place.
     fn settle(&mut self, number: u32) -> Result<(), Stop> {
         if self.goal.is_player(number) {
             if let Some(room) = self.goal.place(number) {
@@ -295,7 +295,7 @@ impl Site<'_> {
         Ok(())
     }
 
-    // Locks all objects that have a key in the end, once nobody has to pass.
+    // Locks all objects that have a key in the end, once no player has to pass.
     fn lock_all(&mut self) -> Result<(), Stop> {
         for number in 0..self.goal.next_number() {
             self.lock(number)?;
@@ -303,7 +303,7 @@ impl Site<'_> {
         Ok(())
     }
 
-    // Takes away what is gone in the end: first all but rooms, and then the rooms.
+    // Removes the objects that are gone in the end: first all but rooms, and then the rooms.
     fn clear(&mut self, rooms: bool) -> Result<(), Stop> {
         for object in 0..self.goal.next_number() {
             let is_gone = self.world.exists(object) && !self.goal.exists(object);
@@ -314,7 +314,7 @@ impl Site<'_> {
         Ok(())
     }
 
-    // Makes the steps of this time, from this one on, and answers which is the next.
+    // Makes the steps of this time, beginning with this one. Returns the index of the next step.
     fn deliver_at(&mut self, steps: &[Delivery], from: usize, time: usize) -> Result<usize, Stop> {
         for at in from..steps.len() {
             let step = steps[at];
@@ -326,7 +326,7 @@ impl Site<'_> {
         Ok(steps.len())
     }
 
-    // Makes what the entries make, their actors in these rooms, each entry after the steps before it.
+    // Makes the entries' objects, with their actors in these rooms, each entry after the steps before it.
     fn make_all(
         &mut self,
         entries: &[Entry],
@@ -346,13 +346,13 @@ impl Site<'_> {
         Ok(())
     }
 
-    // Makes what the entries make, and moves each thing by the way that the survey of the entries shows.
+    // Makes the entries' objects, and moves each thing along the path in their survey.
     fn furnish_by(&mut self, entries: &[Entry], survey: &Survey) -> Result<(), Stop> {
         let steps = steps_of(self.alloc, self.goal, survey, entries.len())?;
         self.make_all(entries, survey.places.as_slice(), steps.as_slice())
     }
 
-    // Makes what the entries make, and brings each thing to where it is in the end.
+    // Makes the entries' objects, and brings each thing to its final place.
     fn furnish(&mut self, entries: &[Entry]) -> Result<(), Stop> {
         let mut survey = survey_of(self.alloc, entries)?;
         if self.spares.gone == Gone::All {
@@ -361,7 +361,7 @@ impl Site<'_> {
         self.furnish_by(entries, &survey)
     }
 
-    // Builds the goal, to which the entries lead.
+    // Builds the goal, the world of the entries.
     fn build(&mut self, entries: &[Entry]) -> Result<(), Stop> {
         self.rename(0)?;
         self.rename(1)?;
@@ -373,7 +373,7 @@ impl Site<'_> {
     }
 }
 
-// Builds the world of the entries, which are legal, again.
+// Rebuilds the world of the entries, which are legal.
 fn build_entries(
     alloc: Global,
     gone: Gone,
@@ -392,9 +392,9 @@ fn build_entries(
     Ok(entries)
 }
 
-/// A history of the world of the entries that builds it again, without these of the changes whose objects are all gone
-/// in the end; none, where that leads nowhere. Nothing is promised of it: its caller compares the worlds. The only
-/// error is out of memory.
+/// Returns a history that rebuilds the world of the entries, without the changes of this kind whose objects are all
+/// gone in the end, or `None` if it finds none. Nothing is promised about it, and the caller compares the worlds. The
+/// only error is out of memory.
 pub fn build_again(
     alloc: Global,
     gone: Gone,

@@ -1,4 +1,4 @@
-//! How each thing comes to where it is in the last world.
+//! Plans how each thing gets to its final place.
 
 use crate::paths::Path;
 use crate::stop::Stop;
@@ -9,44 +9,44 @@ use std::alloc::Global;
 /// A player moves a thing.
 #[derive(Clone, Copy)]
 pub(crate) struct Delivery {
-    /// Before this entry.
+    /// The move comes before this entry.
     pub(crate) time: usize,
     /// The player.
     pub(crate) actor: u32,
-    /// The room in which he is to be, if any.
+    /// The room where the player must be, if any.
     pub(crate) room: Option<u32>,
     /// The thing.
     pub(crate) thing: u32,
-    /// Where it goes.
+    /// The destination.
     pub(crate) to: u32,
 }
 
-/// What is known of a thing's way.
+/// The state of a thing's delivery.
 #[derive(Clone, Copy)]
 struct Freight {
-    // from when on it, and all that goes in it, can go
+    // the time from which it can move with everything in it
     ready: usize,
-    // when it arrives at the room or the player where it is in the last world
+    // the time at which it arrives at its final room or player
     arrival: usize,
-    // who brings it there
+    // the player who brings it there
     carrier: u32,
-    // whether other things may go in it
+    // true if other things may travel in it
     takes: bool,
 }
 
-// A room in which a maker can leave a thing to another player.
+// A room in which a maker can leave a thing for another player.
 #[derive(Clone, Copy)]
 struct Meeting {
     room: u32,
-    // when the maker is there with the thing
+    // the time at which the maker is there with the thing
     first: usize,
-    // when the other is there, then or later
+    // the time at which the other player is there, then or later
     last: usize,
-    // whether the maker is still there by then
+    // true if the maker is still there by then
     is_together: bool,
 }
 
-// The steps, as far as they are planned.
+// The steps planned so far.
 #[derive(Drop)]
 struct Plan<'a> {
     world: &'a World,
@@ -57,7 +57,7 @@ struct Plan<'a> {
     steps: Vec<Delivery>,
 }
 
-// The things that lie in no thing.
+// Returns the things that do not lie in a thing.
 fn outer_things(alloc: Global, world: &World) -> Result<Vec<u32>, Stop> {
     let mut things = Vec::new(alloc);
     for number in 0..world.next_number() {
@@ -68,7 +68,7 @@ fn outer_things(alloc: Global, world: &World) -> Result<Vec<u32>, Stop> {
     Ok(things)
 }
 
-// The things of a world, each after that in which it lies.
+// Returns the things of a world, each after the thing in which it lies.
 fn things_by_depth(alloc: Global, world: &World) -> Result<Vec<u32>, Stop> {
     let mut things = outer_things(alloc, world)?;
     for at in 0..world.next_number() as usize {
@@ -80,7 +80,7 @@ fn things_by_depth(alloc: Global, world: &World) -> Result<Vec<u32>, Stop> {
     Ok(things)
 }
 
-// Adds the things that lie in the object.
+// Appends the things that lie in the object.
 fn add_things(world: &World, number: u32, things: &mut Vec<u32>) -> Result<(), Stop> {
     for inner in world.contents(number) {
         if world.is_thing(*inner) {
@@ -98,7 +98,7 @@ impl Plan<'_> {
         }
     }
 
-    // When the thing came, and who made it.
+    // Returns the time at which the thing was made, and its maker.
     fn origin(&self, thing: u32) -> Result<(usize, u32), Stop> {
         match self.survey.paths.get(&thing) {
             Some(path) => Ok((path.born, path.maker)),
@@ -106,7 +106,7 @@ impl Plan<'_> {
         }
     }
 
-    // The step that puts the thing in the thing in which it lies, if they have one maker.
+    // Returns the step that puts the thing in the thing in which it lies, if they have one maker.
     fn bag(&self, thing: u32) -> Result<Option<Delivery>, Stop> {
         let Some(bag) = self.world.place(thing) else {
             return Err(Stop::GivenUp);
@@ -128,7 +128,7 @@ impl Plan<'_> {
         }))
     }
 
-    // A thing that goes in another can go only when both can.
+    // Makes a thing wait for the thing that it travels in: both must be able to move.
     fn wait(&mut self, thing: u32) -> Result<(), Stop> {
         let ready = self.freight(thing)?.ready;
         if let Some(step) = self.bag(thing)? {
@@ -147,7 +147,7 @@ impl Plan<'_> {
         }
     }
 
-    // The thing goes in the thing where it lies, if that takes it.
+    // Lets the thing travel in the thing where it lies, if that takes it.
     fn pack(&mut self, thing: u32) -> Result<bool, Stop> {
         let Some(step) = self.bag(thing)? else {
             return Ok(false);
@@ -161,7 +161,7 @@ impl Plan<'_> {
         Ok(true)
     }
 
-    // The maker leaves the thing in the room, where he was after it could go.
+    // Lets the maker leave the thing in the room, if the maker was there after it could move.
     fn leave(&mut self, thing: u32, maker: u32, room: u32, ready: usize) -> Result<bool, Stop> {
         let Some(stay) = self.survey.stays.get(maker, room) else {
             return Ok(false);
@@ -191,7 +191,8 @@ impl Plan<'_> {
         Ok(())
     }
 
-    // When the maker can be in the room with the thing, and the other with him or after him.
+    // Returns the time at which the maker can be in the room with the thing, and the other player at the same time or
+    // later.
     fn meeting_in(&self, room: u32, maker: u32, other: u32, ready: usize) -> Option<Meeting> {
         let stay = self.survey.stays.get(maker, room)?;
         let next = self.survey.stays.get(other, room)?;
@@ -209,7 +210,7 @@ impl Plan<'_> {
         })
     }
 
-    // The first meeting in which both are there; if there is none, the last of all.
+    // Returns the first meeting at which both are there, or else the last of all.
     fn meeting(&self, maker: u32, other: u32, ready: usize) -> Option<Meeting> {
         let mut found = None;
         for room in self.survey.rooms.iter() {
@@ -223,7 +224,7 @@ impl Plan<'_> {
         found
     }
 
-    // The maker gives the thing to the other player, or leaves it where he takes it.
+    // Lets the maker give the thing to the other player, or leave it where that player takes it.
     fn give(&mut self, thing: u32, maker: u32, other: u32, ready: usize) -> Result<bool, Stop> {
         let Some(meeting) = self.meeting(maker, other, ready) else {
             return Ok(false);
@@ -238,7 +239,7 @@ impl Plan<'_> {
         Ok(true)
     }
 
-    // The maker brings the thing to its holder, at most by leaving it where that player takes it.
+    // Lets the maker bring the thing to its holder, at most by leaving it where that player takes it.
     fn bring(&mut self, thing: u32, holder: u32) -> Result<bool, Stop> {
         let (_, maker) = self.origin(thing)?;
         let ready = self.freight(thing)?.ready;
@@ -251,7 +252,7 @@ impl Plan<'_> {
         self.give(thing, maker, holder, ready)
     }
 
-    // The thing goes the path that it went.
+    // Moves the thing along the path that it took.
     fn follow(&mut self, thing: u32, path: &Path) -> Result<(), Stop> {
         for hop in path.hops.iter() {
             self.step(hop.time, hop.actor, hop.room, thing, hop.to)?;
@@ -259,7 +260,7 @@ impl Plan<'_> {
         Ok(())
     }
 
-    // Has the last step bring the thing right into the other, if it brings it to its actor or to a room.
+    // Changes the last step to bring the thing into the other one, if it brings the thing to its actor or to a room.
     fn redirect(&mut self, thing: u32, bag: u32) -> bool {
         let Some(last) = self.steps.last_mut() else {
             return false;
@@ -274,7 +275,7 @@ impl Plan<'_> {
         is_near
     }
 
-    // The thing, which has come to its holder, goes into the thing where it lies.
+    // Moves the thing, which has arrived at its holder, into the thing where it lies.
     fn put_in(&mut self, thing: u32, holder: u32, bag: u32) -> Result<(), Stop> {
         let freight = self.freight(thing)?;
         let other = self.freight(bag)?;
@@ -300,7 +301,7 @@ impl Plan<'_> {
         )
     }
 
-    // When the thing comes to its holder by the steps so far, and who brings it.
+    // Returns the time at which the thing arrives at its holder by the steps so far, and the player who brings it.
     fn arrival(&self, thing: u32, path: &Path) -> (usize, u32) {
         match self.steps.as_slice() {
             [.., last] if last.thing == thing => (last.time, last.actor),
@@ -308,7 +309,7 @@ impl Plan<'_> {
         }
     }
 
-    // The thing comes to the holder to which its path leads.
+    // Brings the thing to the holder at the end of its path.
     fn send(&mut self, thing: u32, path: &Path) -> Result<(), Stop> {
         let takes = self.bring(thing, path.holder())?;
         if !takes {
@@ -335,7 +336,7 @@ impl Plan<'_> {
         }
     }
 
-    // Puts all steps in one list, by rising time, those into things first.
+    // Merges all steps into one list, sorted by time, those into things first.
     fn sort(&mut self) -> Result<(), Stop> {
         self.packing.extend_from_slice(self.steps.as_slice())?;
         self.packing
@@ -344,7 +345,7 @@ impl Plan<'_> {
     }
 }
 
-// For each number what is known of a thing's way before anything is planned.
+// Returns for each number the state of a thing's delivery before planning.
 fn freights_of(alloc: Global, world: &World, survey: &Survey) -> Result<Vec<Freight>, Stop> {
     let freight = Freight {
         ready: 0,
@@ -361,7 +362,7 @@ fn freights_of(alloc: Global, world: &World, survey: &Survey) -> Result<Vec<Frei
     Ok(freights)
 }
 
-// What goes in others waits for it: from the things in things outwards.
+// Makes the things in other things wait for them, from the innermost outwards.
 fn wait_for_all(plan: &mut Plan<'_>, things: &[u32]) -> Result<(), Stop> {
     for thing in things.iter().rev() {
         plan.wait(*thing)?;
@@ -369,7 +370,7 @@ fn wait_for_all(plan: &mut Plan<'_>, things: &[u32]) -> Result<(), Stop> {
     Ok(())
 }
 
-// Plans the steps of these things, from those in no things inwards.
+// Plans the steps of these things, from the outermost inwards.
 fn plan_these(plan: &mut Plan<'_>, things: &[u32]) -> Result<(), Stop> {
     for thing in things {
         plan.plan(*thing)?;
@@ -384,7 +385,7 @@ fn plan_all(alloc: Global, plan: &mut Plan<'_>) -> Result<(), Stop> {
     plan_these(plan, things.as_slice())
 }
 
-/// The steps that bring each thing of the last world to where it is, by rising time.
+/// Returns the steps that bring each thing of the last world to its place, sorted by time.
 pub(crate) fn steps_of<'a>(
     alloc: Global,
     world: &'a World,

@@ -1,24 +1,24 @@
-//! Numbers of what is gone in the end: something has to take them, and it doesn't matter what.
+//! Numbers of objects that are gone in the end. Some object has to take each of them, and any will do.
 
 use mud_chron::Entry;
 use mud_world::{Deed, Doors, Target, World};
 use std::alloc::{AllocError, Global};
 
-// The number of the first object that a history makes: the opening world has #0 and #1.
+// The number of the first object of a history: the initial world has #0 and #1.
 pub(crate) const FIRST: u32 = 2;
 
-/// Which changes are left out where all that they made is gone in the end. Their numbers are taken by digs, up to three
+/// The changes that are left out if everything they made is gone in the end. Digs take their numbers, up to three
 /// numbers each.
 #[derive(Clone, Copy, Debug, PartialEq, Eq)]
 pub enum Gone {
-    /// All that make objects. Nobody can walk there where rooms and exits stood that are gone in the end.
+    /// All changes that make objects. No player can walk where rooms and exits stood that are gone in the end.
     All,
-    /// Those that make things.
+    /// Only changes that make things.
     Things,
 }
 
 impl Gone {
-    // Whether such a change may be left out.
+    // Returns whether such a change may be left out.
     fn has(self, deed: &Deed) -> bool {
         match self {
             Gone::All => true,
@@ -27,7 +27,7 @@ impl Gone {
     }
 }
 
-// How many exits these are.
+// Returns the number of exits.
 fn count_doors(doors: &Option<Doors>) -> u32 {
     match doors {
         None => 0,
@@ -36,7 +36,7 @@ fn count_doors(doors: &Option<Doors>) -> u32 {
     }
 }
 
-/// How many objects the change makes, 0 to 3.
+/// Returns the number of objects that the change makes, 0 to 3.
 pub(crate) fn count_made(deed: &Deed) -> u32 {
     match deed {
         Deed::Dig(Target::New(_), doors) => count_doors(doors).saturating_add(1),
@@ -49,19 +49,19 @@ pub(crate) fn count_made(deed: &Deed) -> u32 {
 /// The numbers whose changes are left out.
 #[derive(Drop)]
 pub(crate) struct Spares {
-    /// Which changes are left out.
+    /// The kind of changes left out.
     pub(crate) gone: Gone,
-    // for each number whether its change is left out
+    // for each number, true if its change is left out
     are: Vec<bool>,
 }
 
 impl Spares {
-    /// Whether the change that made this number is left out.
+    /// Returns whether the change that made this number is left out.
     pub(crate) fn has(&self, number: u32) -> bool {
         self.are.get(number as usize).copied().unwrap_or(false)
     }
 
-    /// How many numbers from this one on are such, up to so many.
+    /// Returns how many consecutive numbers, beginning with this one, are left out, at most `most`.
     pub(crate) fn run(&self, first: u32, most: u32) -> u32 {
         for count in 0..most {
             if !self.has(first.saturating_add(count)) {
@@ -71,7 +71,7 @@ impl Spares {
         most
     }
 
-    // Takes down the change that makes the numbers from the first up to the next.
+    // Records the change that makes the numbers from `first` to before `next`.
     fn note(&mut self, deed: &Deed, first: u32, next: u32, goal: &World) {
         if !self.gone.has(deed) || (first..next).any(|number| goal.exists(number)) {
             return;
@@ -84,7 +84,7 @@ impl Spares {
     }
 }
 
-/// The numbers whose changes are left out of these entries, which lead to the goal.
+/// Returns the numbers whose changes are left out of these entries, which lead to the goal.
 pub(crate) fn spares_of(
     alloc: Global,
     gone: Gone,

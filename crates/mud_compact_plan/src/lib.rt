@@ -1,7 +1,8 @@
-//! A world that is built again by a shorter history.
+//! Finds a shorter history that rebuilds a world.
 //!
-//! [`build_again`] gives entries that are to lead to the world of others. Nothing is promised of them: `mud_compact`
-//! compares the two worlds, and passes on only what leads to the same one.
+//! [`build_again`] returns entries that should lead to the world of others. Nothing is promised about them:
+//! `mud_compact` compares the two worlds, and passes on only entries that lead to an equal one (translation
+//! validation).
 #![tactic(auto)]
 
 mod building;

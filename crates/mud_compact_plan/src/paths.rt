@@ -1,28 +1,28 @@
-//! The paths of things: who had them, and where they lay.
+//! The paths of things: their holders over time.
 
 use std::alloc::{AllocError, Global};
 
-/// A thing goes to another holder, a room or a player.
+/// A thing moves to another holder, a room or a player.
 #[derive(Clone, Copy)]
 pub(crate) struct Hop {
-    /// In the world before this entry.
+    /// The move is in the world before this entry.
     pub(crate) time: usize,
     /// The player who moves it.
     pub(crate) actor: u32,
-    /// The room of the player.
+    /// The room of that player.
     pub(crate) room: u32,
-    /// The room or the player where it then is.
+    /// The new holder, a room or a player.
     pub(crate) to: u32,
 }
 
-/// The path of a thing from its maker on, without the ways that came back to where they began.
+/// The path of a thing from its maker on, without detours that returned to an earlier holder.
 #[derive(Drop)]
 pub(crate) struct Path {
-    /// The thing is there from the world before this entry on.
+    /// The thing exists from the world before this entry on.
     pub(crate) born: usize,
-    /// Who made it.
+    /// The maker of the thing.
     pub(crate) maker: u32,
-    /// The hops, of which no two lead to the same holder, and none to the maker.
+    /// The moves. No two lead to one holder, and none to the maker.
     pub(crate) hops: Vec<Hop>,
 }
 
@@ -35,7 +35,7 @@ impl Path {
         }
     }
 
-    /// The room or the player where the thing is.
+    /// Returns the room or the player that has the thing.
     pub(crate) fn holder(&self) -> u32 {
         match self.hops.as_slice() {
             [.., last] => last.to,
@@ -43,12 +43,12 @@ impl Path {
         }
     }
 
-    // The hop to this holder, if there is one, counted from 0.
+    // Returns the index of the move to this holder, if there is one.
     fn hop_to(&self, holder: u32) -> Option<usize> {
         self.hops.iter().position(|hop| hop.to == holder)
     }
 
-    /// The thing goes on. Where it was at that holder before, all between is left out.
+    /// Appends a move. If the thing had that holder before, the moves in between are removed.
     pub(crate) fn go(&mut self, hop: Hop) -> Result<(), AllocError> {
         if hop.to == self.maker {
             self.hops.clear();

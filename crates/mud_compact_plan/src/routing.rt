@@ -1,9 +1,9 @@
-//! The way of a player with the fewest exits.
+//! Finds paths of players with the fewest exits.
 
 use mud_world::World;
 use std::alloc::{AllocError, Global};
 
-// By which exit each room is first reached from a room, by its number, up to where the other is reached.
+// Returns the exit by which each room is first reached from a room, by number, up to the target.
 fn exits_by_room(
     alloc: Global,
     world: &World,
@@ -26,7 +26,7 @@ fn exits_by_room(
     Ok(by)
 }
 
-// Notes the rooms to which exits of the room lead, and that weren't reached before.
+// Records the rooms that the exits of the room lead to and that were not reached before.
 fn look(
     world: &World,
     from: u32,
@@ -52,7 +52,7 @@ fn look(
     Ok(())
 }
 
-/// The exits of a way from room to room with the fewest, locks ignored; none where there is no way.
+/// Returns the exits of a path between two rooms with the fewest exits, ignoring locks, or `None` if there is no path.
 pub(crate) fn way(
     alloc: Global,
     world: &World,

@@ -1,10 +1,10 @@
-//! In which rooms players were last.
+//! The rooms in which players last were.
 
 use indexmap::IndexMap;
 use std::alloc::{AllocError, Global};
 
-/// When a player was in a room for the last time: from the world before one entry up to the world before another. The
-/// entries are counted from 0.
+/// The last stay of a player in a room: from the world before one entry to the world before another. Entries are
+/// counted from 0.
 #[derive(Clone, Copy)]
 pub(crate) struct Stay {
     pub(crate) since: usize,
@@ -24,7 +24,7 @@ impl Stays {
         }
     }
 
-    /// The player comes into the room.
+    /// Records that the player enters the room.
     pub(crate) fn enter(&mut self, player: u32, room: u32, time: usize) -> Result<(), AllocError> {
         let stay = Stay {
             since: time,
@@ -36,14 +36,14 @@ impl Stays {
         }
     }
 
-    /// The player, who is in the room, is still there.
+    /// Records that the player is still in the room.
     pub(crate) fn stay(&mut self, player: u32, room: u32, time: usize) {
         if let Some(stay) = self.stays.get_mut(&(player, room)) {
             stay.until = time;
         }
     }
 
-    /// When the player was in the room last.
+    /// Returns the last stay of the player in the room.
     pub(crate) fn get(&self, player: u32, room: u32) -> Option<Stay> {
         self.stays.get(&(player, room)).copied()
     }

@@ -1,13 +1,13 @@
-//! Why no shorter history is found.
+//! The reasons why no shorter history is found.
 
 use std::alloc::{AllocError, AllocFailed};
 
-/// Why no shorter history is found.
+/// The reason why no shorter history is found.
 #[derive(Clone, Copy)]
 pub(crate) enum Stop {
-    /// Memory ran out.
+    /// An allocation failed.
     OutOfMemory,
-    /// What was tried led nowhere, or would take too long.
+    /// The attempt failed, or would take too long.
     GivenUp,
 }
 

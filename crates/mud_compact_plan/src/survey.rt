@@ -1,4 +1,4 @@
-//! What a history tells of its players and things.
+//! Surveys the players and things of a history.
 
 use crate::paths::{Hop, Path};
 use crate::stays::Stays;
@@ -8,20 +8,20 @@ use mud_chron::Entry;
 use mud_world::{Change, Deed, Target, World};
 use std::alloc::Global;
 
-// How often things may go to other holders in a history that is surveyed, each thing in a thing that goes counted.
+// The greatest number of moves to other holders in a surveyed history; each thing inside a moving thing counts.
 const MOST_HOPS: usize = 4_000_000;
 
-/// What a history tells of its players and things.
+/// The facts about the players and things of a history.
 #[derive(Drop)]
 pub(crate) struct Survey {
     alloc: Global,
-    /// Where players were last.
+    /// The last stays of players.
     pub(crate) stays: Stays,
     /// The path of each thing that was made.
     pub(crate) paths: IndexMap<u32, Path>,
-    /// Each room that was dug, and #0.
+    /// The rooms that were dug, and #0.
     pub(crate) rooms: Vec<u32>,
-    /// The room of each entry's actor before it; #0 where he is in none.
+    /// The room of each entry's actor before it, or #0 if the actor is in none.
     pub(crate) places: Vec<u32>,
     hops: usize,
 }
@@ -38,14 +38,14 @@ impl Survey {
         }
     }
 
-    // Takes down the opening world: the player #1 in the room #0.
+    // Records the initial world: the player #1 in the room #0.
     fn open(&mut self) -> Result<(), Stop> {
         self.stays.enter(1, 0, 0)?;
         self.rooms.push(0)?;
         Ok(())
     }
 
-    // The room or the player where the object is.
+    // Returns the room or the player that has the object.
     fn holder(&self, object: u32) -> u32 {
         match self.paths.get(&object) {
             Some(path) => path.holder(),
@@ -53,7 +53,7 @@ impl Survey {
         }
     }
 
-    // A thing goes to another holder.
+    // Records that a thing moves to another holder.
     fn hop(&mut self, thing: u32, hop: Hop) -> Result<(), Stop> {
         if self.hops >= MOST_HOPS {
             return Err(Stop::GivenUp);
@@ -65,7 +65,7 @@ impl Survey {
         Ok(())
     }
 
-    // The thing, and all that lies in it, goes to another holder.
+    // Records that the thing, with everything inside it, moves to another holder.
     fn carry(&mut self, world: &World, thing: u32, hop: Hop) -> Result<(), Stop> {
         let mut open = Vec::new(self.alloc);
         open.push(thing)?;
@@ -79,7 +79,7 @@ impl Survey {
         Ok(())
     }
 
-    // The thing goes to a holder, maybe to the one that it has.
+    // Records that the thing moves to a holder, which may be the present one.
     fn shift(&mut self, world: &World, thing: u32, hop: Hop) -> Result<(), Stop> {
         if hop.to == self.holder(thing) {
             return Ok(());
@@ -87,14 +87,14 @@ impl Survey {
         self.carry(world, thing, hop)
     }
 
-    // The actor walks to another room.
+    // Records that the actor walks to another room.
     fn walk(&mut self, actor: u32, here: u32, there: u32, time: usize) -> Result<(), Stop> {
         self.stays.stay(actor, here, time);
         self.stays.enter(actor, there, time.saturating_add(1))?;
         Ok(())
     }
 
-    // Takes down a change of the world, which is entry `time`.
+    // Records a change of the world, the entry `time`.
     fn note(&mut self, world: &World, time: usize, change: &Change) -> Result<(), Stop> {
         let actor = change.actor;
         let here = world.place(actor).unwrap_or(0);
@@ -122,19 +122,19 @@ impl Survey {
         Ok(())
     }
 
-    // The actor makes a thing.
+    // Records that the actor makes a thing.
     fn make(&mut self, world: &World, time: usize, actor: u32) -> Result<(), Stop> {
         let path = Path::new(self.alloc, time.saturating_add(1), actor);
         self.paths.insert(world.next_number(), path)?;
         Ok(())
     }
 
-    /// Things are left and handed over only in rooms of this world.
+    /// Restricts the places where things are left and handed over to rooms of this world.
     pub(crate) fn meet_in_rooms_of(&mut self, world: &World) {
         self.rooms.retain(|room| world.is_room(*room));
     }
 
-    // Each player is where he is in the last world.
+    // Records that each player is in its place in the last world.
     fn end(&mut self, world: &World, time: usize) {
         for number in 0..world.next_number() {
             if let Some(room) = world.place(number) {
@@ -143,7 +143,7 @@ impl Survey {
         }
     }
 
-    // Takes down a change, which is entry `time`, and makes it.
+    // Records a change, the entry `time`, and applies it.
     fn take_in(&mut self, world: &mut World, time: usize, change: &Change) -> Result<(), Stop> {
         self.note(world, time, change)?;
         if world.legal(change).is_err() {
@@ -153,7 +153,7 @@ impl Survey {
         Ok(())
     }
 
-    // Takes down what the entries tell.
+    // Records all entries.
     fn take_in_all(&mut self, entries: &[Entry]) -> Result<(), Stop> {
         self.open()?;
         let mut world = World::opening(self.alloc)?;
@@ -165,7 +165,7 @@ impl Survey {
     }
 }
 
-/// What the entries, which are legal, tell.
+/// Returns the survey of the entries, which are legal.
 pub(crate) fn survey_of(alloc: Global, entries: &[Entry]) -> Result<Survey, Stop> {
     let mut survey = Survey::new(alloc);
     survey.take_in_all(entries)?;

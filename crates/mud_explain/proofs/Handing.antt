@@ -27,7 +27,7 @@ handed-more numbers k at desks handed left d e are lt inside there number one =
       all = IsPermutation-more desks handed left at d inside one are.all;
     }
 
--- all are there again, after the others
+-- all are back, after the others
 pub handed-back : (numbers : List ℕ) (desks handed left : List View)
     → AreHanded numbers desks handed left → IsPermutation desks (left ++ handed)
 handed-back numbers desks handed left are =

@@ -1,10 +1,10 @@
--- What a write that failed leaves.
+-- The output after a failed write.
 use Rattle.std.proofs.Common.{◌≡◌, ℕ, List, take, drop, Option, Some, None, IfSome, subst, take-append-drop}
 use Rattle.std.specs.Io.KnownBytes.{Appends}
 use Rattle.mud_cli.specs.declared.subject.Subject.{Subject}
 use Rattle.mud_explain.specs.Explanation.{Explains, WritesFront}
 
--- a front of what explains the input was written
+-- a prefix of the explanation was written
 pub front-written : (subject : Subject) (known held now_held : Option (List ℕ)) (input out : List ℕ) (n : ℕ)
     → IfSome known (λ bytes. input ≡ bytes) → Explains subject input out → Appends held now_held (take n out)
     → IfSome known (λ bytes. WritesFront subject bytes held now_held)

@@ -1,4 +1,4 @@
--- What is explained, and how.
+-- The explanation of an input.
 use Rattle.std.specs.Prelude.{◌≡◌, ℕ, List, ◌++◌, Option, codes}
 use mathlib.Core.List.{IsPrefix}
 use Rattle.std.specs.Io.KnownBytes.{Appends}
@@ -19,28 +19,28 @@ use Rattle.std.specs.List.{flat_map}
 use Rattle.mud_explain.specs.Units.{unit_text}
 use Rattle.std.specs.Option.{option_map_or}
 
--- what a text is told to be
+-- the explanation of a text
 abbrev pub SaysText : Reading → List ℕ → List ℕ → Type 0
 SaysText Words text answer = answer ≡ bracket_all (words text)
 SaysText Parse text answer = answer ≡ line_text (parse_of text)
 SaysText Names text answer = answer ≡ option_map_or bracket_all (names_in text) (codes "bad names")
 SaysText Key text answer = SaysKey text answer
 
--- what a line is told to be: bytes that are not UTF-8 are no text
+-- the explanation of a line; bytes that are not UTF-8 are not a text
 pub data Says (reading : Reading) (line answer : List ℕ) : Type 0 where
   a_text : IsUtf8 line → SaysText reading line answer → Says reading line answer
   no_text : (IsUtf8 line → ⊥) → answer ≡ codes "not text" → Says reading line answer
 
--- what is written for an input
+-- the output for an input
 abbrev pub Explains : Subject → List ℕ → List ℕ → Type 0
 Explains Units input out = out ≡ flat_map (λ unit. unit_text unit ++ codes "\n") (units input)
 Explains (Lines reading) input out = Answers (Says reading) input out
 
--- what explains the input was written
+-- the explanation of the input was written
 abbrev pub Writes : Subject → List ℕ → Option (List ℕ) → Option (List ℕ) → Type 0
 Writes subject input held now_held = (out : List ℕ) × Explains subject input out × Appends held now_held out
 
--- a front of what explains the input was written
+-- a prefix of the explanation of the input was written
 abbrev pub WritesFront : Subject → List ℕ → Option (List ℕ) → Option (List ℕ) → Type 0
 WritesFront subject input held now_held =
     (out : List ℕ) × (front : List ℕ) × Explains subject input out × IsPrefix front out × Appends held now_held front

@@ -1,15 +1,15 @@
--- How the words of a line, and what the line says, are told.
+-- The words and the parse of a line, as text.
 use Rattle.std.specs.Prelude.{ℕ, List, [], ◌++◌, codes, get_or}
 use Rattle.mud_words.specs.declared.Prep.{Prep}
 use Rattle.mud_words.specs.Prepositions.{phrases_of}
 use Rattle.mud_words.specs.Line.{Line}
 use Rattle.std.specs.Option.{option_map_or}
 
--- a preposition by the first phrase that says it
+-- a preposition by its first phrase
 abbrev pub prep_text : Prep → List ℕ
 prep_text prep = get_or (phrases_of prep) 0 []
 
--- what a line says
+-- the parse of a line
 abbrev pub line_text : Line → List ℕ
 line_text l =
     codes "verb [" ++ l.verb ++ codes "] direct [" ++ l.direct ++ codes "] preposition "

@@ -1,4 +1,4 @@
-//! An input, explained.
+//! Explains an input.
 
 ghost use Rattle.std.specs.Prelude.{◌≡◌, ◌↔◌, ◌⊎◌, Err, true, false, IfOk, IfSome, OnOk, string_bytes};
 ghost use Rattle.std.specs.Io.KnownBytes.{IsAtEnd, Keeps};
@@ -13,10 +13,10 @@ use std::alloc::{AllocError, Global};
 use std::io::{ErrorKind, Read, Write};
 use thiserror::Error;
 
-/// Why an input was not explained.
+/// The reason why an input was not explained.
 #[derive(Clone, Copy, Debug, Error)]
 pub enum ExplainFault {
-    /// Memory ran out.
+    /// An allocation failed.
     #[error("out of memory")]
     OutOfMemory,
     /// The input can't be read.
@@ -30,7 +30,7 @@ pub enum ExplainFault {
     Unloaded(Unloaded),
 }
 
-// All that the source has left.
+// Returns the rest of the source.
 pub(crate) fn input_of<R: Read>(
     alloc: Global,
     source: &mut Source<R>,
@@ -51,7 +51,7 @@ pub(crate) fn input_of<R: Read>(
     }
 }
 
-// What is written for an input.
+// Returns the explanation of an input.
 fn explain_input(alloc: Global, subject: Subject, input: &[u8]) -> Result<String, AllocError>
     ensures { IfOk result (λ out. Explains subject input.now (string_bytes out)) }
 {
@@ -61,9 +61,9 @@ fn explain_input(alloc: Global, subject: Subject, input: &[u8]) -> Result<String
     }
 }
 
-/// Reads to the source's end, and writes a line for each thing read. Nothing is written before all is read and
-/// explained; where a write fails, a front of the lines is written. `Read` is the answer where the source failed,
-/// and nowhere else; `Write` only where the sink failed.
+/// Reads to the source's end, and writes a line for each thing read. It writes nothing before everything is read and
+/// explained. If a write fails, a prefix of the lines is written. The error is `Read` exactly if the source failed, and
+/// `Write` only if the sink failed.
 pub(crate) fn explain<R: Read, W: Write>(
     alloc: Global,
     subject: Subject,

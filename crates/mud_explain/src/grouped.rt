@@ -1,4 +1,4 @@
-//! Keys with every pair of parentheses.
+//! Prints keys with all parentheses.
 
 ghost use Rattle.std.specs.Prelude.{◌≡◌, ◌++◌, OnOk, string_bytes};
 ghost use Rattle.mud_key.specs.KeyText.{sign};
@@ -8,7 +8,7 @@ ghost use Rattle.mud_explain.specs.Key.{group_text};
 use mud_key::{Node, Operator};
 use std::alloc::AllocError;
 
-// The sign of an operator.
+// Returns the sign of an operator.
 fn sign_of(operator: Operator) -> &'static str
     ensures { result.now ≡ sign operator }
 {
@@ -18,8 +18,8 @@ fn sign_of(operator: Operator) -> &'static str
     }
 }
 
-// Appends the text of a key, one pair of parentheses round each join. A key's size is limited by its type, and so is
-// the depth of this recursion.
+// Appends the text of a key, with parentheses around each join. The type of a key limits its size, and so the depth of
+// this recursion.
 pub(crate) fn push_grouped(out: &mut String, node: &Node<String>) -> Result<(), AllocError>
     ensures { OnOk result (string_bytes out.new ≡ string_bytes out.old ++ group_text (reading_of node.now)) }
 {

@@ -1,4 +1,4 @@
-//! Desks of a hall, played.
+//! Plays the desks of a hall.
 
 ghost use Rattle.std.specs.Prelude.{◌≡◌, ◌⊎◌, ◌≤◌, Err, true, false, OnOk};
 ghost use Rattle.std.specs.Io.KnownBytes.{IsAtEnd, Keeps};
@@ -18,7 +18,7 @@ use std::marker::Brand;
 use std::rt::Files;
 use std::sync::Wait;
 
-// Plays the lines of an input, and appends what is told of each.
+// Plays the lines of an input, and appends the result of each.
 fn play_all<J: HallName, R: Wait>(
     play: &mut Play<J>,
     rt: &R,
@@ -37,7 +37,7 @@ fn play_all<J: HallName, R: Wait>(
     play.play_line(rt, rest, out)
 }
 
-// What is told of the lines of an input, which are steps of the desks of this hall.
+// Returns the results of an input's lines, which are steps of this hall's desks.
 fn told_in<J: HallName, R: Wait>(
     rt: &R,
     alloc: Global,
@@ -53,7 +53,7 @@ fn told_in<J: HallName, R: Wait>(
     Ok(out)
 }
 
-// What is told of the lines of an input, in a hall that gets its name here.
+// Returns the results of an input's lines, in a hall that gets its name here.
 fn play_unnamed<R: Wait>(
     rt: &R,
     alloc: Global,
@@ -63,7 +63,7 @@ fn play_unnamed<R: Wait>(
     told_in::<Brand, R>(rt, alloc, hall, input)
 }
 
-// What is told of all the lines that the source has left.
+// Returns the results of all lines that the source has left.
 fn told_input<R: Wait, S: Read>(
     rt: &R,
     alloc: Global,
@@ -82,9 +82,9 @@ fn told_input<R: Wait, S: Read>(
     }
 }
 
-/// Opens the hall, reads to the source's end, and writes what is told of each line, a step of a desk
-/// (docs/EXPLAIN.md, "hall"). Nothing is written before all is read and played. `Read` is the answer only where the
-/// source failed, `Write` only where the sink failed.
+/// Opens the hall, reads to the source's end, and writes the result of each line, a step of a desk (docs/EXPLAIN.md,
+/// "hall"). It writes nothing before everything is read and played. The error is `Read` only if the source failed, and
+/// `Write` only if the sink failed.
 pub(crate) fn explain_hall<H: Wait + Files + AllocGlobal, R: Read, W: Write>(
     rt: &H,
     opening: Opening<'_>,

@@ -1,4 +1,4 @@
-//! What each line of an input is told to be.
+//! Explains each line of an input.
 
 ghost use Rattle.std.specs.Prelude.{◌≡◌, ◌++◌, IfOk, OnOk, string_bytes, codes};
 ghost use Rattle.mud_words.specs.Words.{words};
@@ -22,7 +22,7 @@ use mud_key::{KeyFault, Names, NamesFault};
 use mud_words::{Parsed, Prep};
 use std::alloc::{AllocError, Global};
 
-// The words of a line.
+// Returns the words of a line.
 fn said_words(alloc: Global, text: &str) -> Result<String, AllocError>
     ensures { IfOk result (λ answer. string_bytes answer ≡ bracket_all (words text.now)) }
 {
@@ -32,7 +32,7 @@ fn said_words(alloc: Global, text: &str) -> Result<String, AllocError>
     Ok(answer)
 }
 
-// The first phrase that says the preposition, or `-`.
+// Returns the first phrase of the preposition, or `-`.
 fn phrase_of(preposition: Option<Prep>) -> &'static str
     ensures { result.now ≡ preposition_text preposition }
 {
@@ -56,7 +56,7 @@ fn phrase_of(preposition: Option<Prep>) -> &'static str
     }
 }
 
-// Appends what a line says.
+// Appends the parse of a line.
 fn push_parsed(out: &mut String, parsed: &Parsed) -> Result<(), AllocError>
     ensures { OnOk result (string_bytes out.new ≡ string_bytes out.old ++ line_text (line_of parsed.now)) }
 {
@@ -71,7 +71,7 @@ fn push_parsed(out: &mut String, parsed: &Parsed) -> Result<(), AllocError>
     )
 }
 
-// What a line says.
+// Returns the parse of a line.
 fn said_line(alloc: Global, text: &str) -> Result<String, AllocError>
     ensures { IfOk result (λ answer. string_bytes answer ≡ line_text (parse_of text.now)) }
 {
@@ -81,7 +81,7 @@ fn said_line(alloc: Global, text: &str) -> Result<String, AllocError>
     Ok(answer)
 }
 
-// The names of a names text.
+// Returns the names of a names text.
 fn said_names(alloc: Global, text: &str) -> Result<String, AllocError>
     ensures { IfOk result (λ answer. string_bytes answer
         ≡ option_map_or bracket_all (names_in text.now) (codes "bad names")) }
@@ -97,7 +97,7 @@ fn said_names(alloc: Global, text: &str) -> Result<String, AllocError>
     }
 }
 
-// A key, or why the text is none.
+// Returns a key, or the reason why the text is not one.
 fn said_key(alloc: Global, text: &str) -> Result<String, AllocError>
     ensures { IfOk result (λ answer. SaysKey text.now (string_bytes answer)) }
 {
@@ -110,12 +110,12 @@ fn said_key(alloc: Global, text: &str) -> Result<String, AllocError>
         Err(KeyFault::BadKey(at)) => format!(in alloc; "bad key at {at}"),
         Err(KeyFault::TooManyAtoms) => String::from_str(alloc, "too many objects"),
         Err(KeyFault::OutOfMemory) => Err(AllocError),
-        // A text is read without asking what its objects are.
+        // reading a text does not resolve its objects
         Err(KeyFault::NoSuch | KeyFault::Ambiguous) => unreachable!(),
     }
 }
 
-// What a text is told to be.
+// Returns the explanation of a text.
 fn said_text(alloc: Global, reading: Reading, text: &str) -> Result<String, AllocError>
     ensures { IfOk result (λ answer. SaysText reading text.now (string_bytes answer)) }
 {
@@ -127,7 +127,7 @@ fn said_text(alloc: Global, reading: Reading, text: &str) -> Result<String, Allo
     }
 }
 
-// What a line is told to be.
+// Returns the explanation of a line.
 fn describe(alloc: Global, reading: Reading, line: &[u8]) -> Result<String, AllocError>
     ensures { IfOk result (λ answer. Says reading line.now (string_bytes answer)) }
 {
@@ -137,7 +137,7 @@ fn describe(alloc: Global, reading: Reading, line: &[u8]) -> Result<String, Allo
     }
 }
 
-// Appends what a line is told to be, and LF.
+// Appends the explanation of a line, and LF.
 fn push_said(
     out: &mut String,
     alloc: Global,
@@ -151,8 +151,8 @@ fn push_said(
     out.push('\n')
 }
 
-/// A line for each line of the input: what it is read as (docs/EXPLAIN.md). A line ends at LF, and a last one without
-/// LF counts.
+/// Returns a line for each line of the input: its explanation (docs/EXPLAIN.md). LF ends a line, and a last line
+/// without LF counts.
 pub(crate) fn explained_lines(
     alloc: Global,
     reading: Reading,

@@ -1,4 +1,4 @@
-//! Texts between brackets.
+//! Writes texts in brackets.
 
 ghost use Rattle.std.specs.Prelude.{◌≡◌, ◌++◌, map, OnOk, codes, string_bytes};
 ghost use Rattle.std.specs.List.{flat_map};
@@ -7,14 +7,14 @@ ghost use Rattle.mud_explain.specs.Brackets.{bracket_all, in_brackets};
 use std::alloc::AllocError;
 use std::convert::AsStr;
 
-// Appends the text between brackets.
+// Appends the text in brackets.
 pub(crate) fn push_bracketed(out: &mut String, text: &str) -> Result<(), AllocError>
     ensures { OnOk result (string_bytes out.new ≡ string_bytes out.old ++ in_brackets text.now) }
 {
     write!(out, "[{text}]")
 }
 
-// Appends each text between brackets, a space in front of each.
+// Appends each text in brackets, after a space.
 fn push_others<T: AsStr>(out: &mut String, texts: &[T]) -> Result<(), AllocError>
     ensures { OnOk result (string_bytes out.new
         ≡ string_bytes out.old ++ flat_map (λ t. codes " " ++ in_brackets t) (map T.text texts.now)) }
@@ -26,7 +26,7 @@ fn push_others<T: AsStr>(out: &mut String, texts: &[T]) -> Result<(), AllocError
     Ok(())
 }
 
-// Appends each text between brackets, a space between each two.
+// Appends each text in brackets, with a space between two of them.
 pub(crate) fn push_listed<T: AsStr>(out: &mut String, texts: &[T]) -> Result<(), AllocError>
     ensures { OnOk result (string_bytes out.new ≡ string_bytes out.old ++ bracket_all (map T.text texts.now)) }
 {

@@ -1,8 +1,8 @@
-//! `mud_explain`: tells how a text is read, a line for each thing read.
+//! `mud_explain`: shows how a text is read, with a line for each thing read.
 //!
-//! `mud_explain units` takes the raw bytes of a Telnet stream; `words`, `parse`, `names` and `key` take lines. A
-//! builder who is told `That key is not understood.` learns from `mud_explain key` where. `mud_explain hall` plays
-//! lines that are steps of the desks of one hall. docs/EXPLAIN.md has the answers.
+//! `mud_explain units` reads the raw bytes of a Telnet stream; `words`, `parse`, `names` and `key` read lines. A
+//! builder who gets `That key is not understood.` can locate the mistake with `mud_explain key`. `mud_explain hall`
+//! plays lines that are steps of the desks of one hall. docs/EXPLAIN.md has the answers.
 #![tactic(auto)]
 
 ghost use Rattle.std.specs.Prelude.{◌≤◌};
@@ -35,7 +35,7 @@ fn main(rt: HostRuntime) -> ExitCode {
     }
 }
 
-// Does what the words ask for.
+// Runs the task of the words.
 fn run<R: Runtime + AllocGlobal + Wait>(rt: &R, words: &[String]) -> ExitCode {
     let task = match task_of(rt.alloc(), words) {
         Ok(task) => task,
@@ -71,7 +71,7 @@ fn run_hall<R: Runtime + AllocGlobal + Wait>(
     explain_hall(rt, opening, &mut source, &mut sink)
 }
 
-// Says why the words ask for nothing, or what they ask to be told, and answers the status.
+// Prints why the words name no task, or the help or version that they ask for. Returns the exit status.
 fn tell_fault<R: Print + Eprint>(rt: &R, fault: CommandFault) -> ExitCode {
     match fault {
         CommandFault::OutOfMemory => tell_stop(rt, ExplainFault::OutOfMemory),
@@ -83,7 +83,7 @@ fn tell_fault<R: Print + Eprint>(rt: &R, fault: CommandFault) -> ExitCode {
     }
 }
 
-// Says why the program stopped, where that can be said, and answers its status.
+// Prints why the program stopped, ignoring a failed write. Returns the exit status.
 fn tell_stop<R: Eprint>(rt: &R, fault: ExplainFault) -> ExitCode {
     let _ = eprintln!(rt; "mud_explain: {fault}");
     ExitCode::from(match fault {

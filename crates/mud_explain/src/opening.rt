@@ -1,4 +1,4 @@
-//! The hall that steps are played in.
+//! Opens the hall in which steps are played.
 
 ghost use Rattle.std.specs.Prelude.{◌≤◌};
 ghost use Rattle.mud_world.specs.declared.limits.TheConstants.{MOST_ENTRIES};
@@ -10,7 +10,7 @@ use mud_history_file::{Unloaded, load};
 use std::alloc::Global;
 use std::rt::Files;
 
-// A hall that goes on from these entries.
+// Returns a hall that continues these entries.
 fn resume_hall(alloc: Global, capacity: u32, entries: Vec<Entry>) -> Result<NewHall, Unloaded>
     requires from { 1 ≤ capacity }
     requires to { capacity ≤ MOST_ENTRIES }
@@ -21,7 +21,7 @@ fn resume_hall(alloc: Global, capacity: u32, entries: Vec<Entry>) -> Result<NewH
     }
 }
 
-/// The hall that was asked for. The file is read first, then its text; then the hall goes on from it.
+/// Returns the requested hall. It reads the file first, then its text, and then continues it.
 pub(crate) fn open_hall<R: Files + AllocGlobal>(
     rt: &R,
     opening: Opening<'_>,

@@ -1,4 +1,4 @@
-//! Steps of the desks of one hall.
+//! Plays steps of the desks of one hall.
 
 ghost use Rattle.std.specs.Prelude.{◌≡◌, ◌<◌, ◌++◌, ◌⊎◌, ℕ, List, length, slice_get, Some, None};
 ghost use Rattle.std.specs.Prelude.{IfOk, IfSome, IfNone, OnOk, codes, string_bytes};
@@ -18,7 +18,7 @@ use mud_words::parse;
 use std::alloc::{AllocError, Global};
 use std::sync::Wait;
 
-/// A hall, until it is closed, and the desks that it gave.
+/// A hall, until it is closed, and its desks.
 #[derive(Drop)]
 pub(crate) struct Play<J: HallName> {
     alloc: Global,
@@ -27,7 +27,7 @@ pub(crate) struct Play<J: HallName> {
 }
 
 impl<J: HallName> Play<J> {
-    /// A hall that gave no desk yet.
+    /// Returns a hall without desks.
     pub(crate) fn new(alloc: Global, hall: NewHall) -> Play<J>
         requires cells { hall.cells ≡ J.cells }
         requires loaded { hall.loaded ≡ J.loaded }
@@ -39,7 +39,7 @@ impl<J: HallName> Play<J> {
         }
     }
 
-    /// Plays a line, and appends what is told of it.
+    /// Plays a line, and appends its result.
     pub(crate) fn play_line<R: Wait>(
         &mut self,
         rt: &R,
@@ -68,7 +68,7 @@ impl<J: HallName> Play<J> {
         }
     }
 
-    // A new desk.
+    // Gives a new desk.
     fn desk<R: Wait>(&mut self, rt: &R, out: &mut String) -> Result<(), AllocError>
         ensures hall { self.new.hall ≡ self.old.hall }
         ensures told { OnOk result ((told : List ℕ) × (string_bytes out.new ≡ string_bytes out.old ++ told)
@@ -89,7 +89,7 @@ impl<J: HallName> Play<J> {
         }
     }
 
-    // What a desk does by itself.
+    // Plays the turn of one desk.
     fn turn<R: Wait>(
         &mut self,
         rt: &R,
@@ -112,7 +112,7 @@ impl<J: HallName> Play<J> {
         }
     }
 
-    // The desk takes over what the other knows.
+    // Advances the desk to what the other one has seen.
     fn learn(&mut self, number: u32, other: u32, out: &mut String) -> Result<(), AllocError> {
         if self.hall.is_none() {
             return not_understood(out);
@@ -126,7 +126,7 @@ impl<J: HallName> Play<J> {
         }
     }
 
-    // The desks of these numbers are handed in.
+    // Hands in the desks with these numbers.
     fn close<R: Wait>(
         &mut self,
         rt: &R,
@@ -145,7 +145,7 @@ impl<J: HallName> Play<J> {
         }
     }
 
-    // The hall ends, or goes on with all its desks.
+    // Closes the hall, or keeps it with all its desks.
     fn settle<R: Wait>(
         &mut self,
         rt: &R,
@@ -169,14 +169,14 @@ impl<J: HallName> Play<J> {
     }
 }
 
-// Says that a line is no step of the desks that are there.
+// Appends that a line is not a step of the present desks.
 fn not_understood(out: &mut String) -> Result<(), AllocError>
     ensures { OnOk result (string_bytes out.new ≡ string_bytes out.old ++ codes "not understood\n") }
 {
     out.push_str("not understood\n")
 }
 
-// Where the desk of this number is.
+// Returns the place of the desk with this number.
 fn place_of<J: HallName>(desks: &Vec<Desk<J>>, number: u32) -> Option<usize>
     ensures some { IfSome result (λ i. i < vec_len desks.now) }
     ensures inside { IfSome result (λ i. i < length desks.now.items) }
@@ -192,7 +192,7 @@ fn place_of<J: HallName>(desks: &Vec<Desk<J>>, number: u32) -> Option<usize>
     None
 }
 
-// Takes the desks of these numbers, in that order; where one is not there, all stay.
+// Takes the desks with these numbers, in that order. If one is missing, all stay.
 fn handed_in<J: HallName>(
     alloc: Global,
     desks: &mut Vec<Desk<J>>,
@@ -213,7 +213,7 @@ fn handed_in<J: HallName>(
     Ok(Some(handed))
 }
 
-// The desks that were handed in are there again.
+// Puts the desks that were handed in back.
 fn take_back<J: HallName>(desks: &mut Vec<Desk<J>>, handed: Vec<Desk<J>>) -> Result<(), AllocError>
     ensures { OnOk result (desks.new.items ≡ desks.old.items ++ handed.items) }
 {
@@ -221,7 +221,7 @@ fn take_back<J: HallName>(desks: &mut Vec<Desk<J>>, handed: Vec<Desk<J>>) -> Res
     desks.append(&mut handed)
 }
 
-// One desk learns from another.
+// Makes one desk learn from another.
 fn learn_at<J: HallName>(desks: &mut [Desk<J>], at: usize, from: usize)
     requires at { at < length desks.old }
     requires from { from < length desks.old }
@@ -236,7 +236,7 @@ fn learn_at<J: HallName>(desks: &mut [Desk<J>], at: usize, from: usize)
     }
 }
 
-// What a desk does by itself, and what is told of it.
+// Plays the turn of a desk, and appends its result.
 fn turn_at<J: HallName, R: Wait>(
     rt: &R,
     alloc: Global,

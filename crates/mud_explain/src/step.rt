@@ -5,37 +5,37 @@ ghost use Rattle.mud_key.specs.declared.codes.TheConstants.{ZERO, NINE};
 
 use std::alloc::{AllocError, Global};
 
-/// A step of the desks of a hall.
+/// A step of a hall's desks.
 #[derive(Drop)]
 pub(crate) enum Row<'a> {
-    /// A new desk.
+    /// Gives a new desk.
     Desk,
-    /// The end of the hall, with the desks of these numbers handed in.
+    /// Closes the hall with the desks of these numbers.
     Close(Vec<u32>),
-    /// The first desk takes over what the second knows.
+    /// The first desk learns what the second one has seen.
     Learn(u32, u32),
-    /// What a desk does by itself.
+    /// The turn of one desk.
     At(u32, Turn<'a>),
 }
 
-/// What a desk does by itself.
+/// The turn of one desk.
 #[derive(Clone, Copy)]
 pub(crate) enum Turn<'a> {
     /// A line that acts.
     Act(&'a str),
     /// A line that asks.
     Ask(&'a str),
-    /// Taking in all entries.
+    /// See all entries.
     See,
-    /// How many entries it has seen.
+    /// Report the number of entries seen.
     Seen,
-    /// The lines that it was told.
+    /// Hand out the notices.
     Told,
-    /// A guest's desk again.
+    /// Become a guest's desk again.
     Guest,
 }
 
-/// The step that a line is, if it is one.
+/// Returns the step of a line, if it is one.
 pub(crate) fn step_of<'a>(alloc: Global, line: &'a str) -> Result<Option<Row<'a>>, AllocError> {
     if line == "desk" {
         return Ok(Some(Row::Desk));
@@ -48,7 +48,7 @@ pub(crate) fn step_of<'a>(alloc: Global, line: &'a str) -> Result<Option<Row<'a>
     }
 }
 
-// The end of the hall, if these are numbers with a space between each two.
+// Returns the close step, if these are numbers separated by one space.
 fn close_step<'a>(alloc: Global, words: &'a str) -> Result<Option<Row<'a>>, AllocError> {
     let mut numbers = Vec::new(alloc);
     for word in words.split(' ') {
@@ -60,7 +60,7 @@ fn close_step<'a>(alloc: Global, words: &'a str) -> Result<Option<Row<'a>>, Allo
     Ok(Some(Row::Close(numbers)))
 }
 
-// The step of one desk.
+// Returns the step of one desk.
 fn at_desk<'a>(number: &str, words: &'a str) -> Option<Row<'a>> {
     let number = number_of(number)?;
     match words.strip_prefix("learn ") {
@@ -69,7 +69,7 @@ fn at_desk<'a>(number: &str, words: &'a str) -> Option<Row<'a>> {
     }
 }
 
-// What a desk is asked to do.
+// Returns the turn that a desk is asked for.
 fn turn_of(words: &str) -> Option<Turn<'_>> {
     match words {
         "see" => Some(Turn::See),
@@ -84,7 +84,7 @@ fn turn_of(words: &str) -> Option<Turn<'_>> {
     }
 }
 
-// The number of a desk: one digit or two, the first no zero.
+// Returns the number of a desk: one or two digits, the first not zero.
 fn number_of(word: &str) -> Option<u32> {
     match word.as_bytes() {
         [one @ b'1'..=b'9'] => Some(digit(*one)),
@@ -93,7 +93,7 @@ fn number_of(word: &str) -> Option<u32> {
     }
 }
 
-// The value of a digit.
+// Returns the value of a digit.
 fn digit(byte: u8) -> u32
     requires from { ZERO ≤ byte }
     requires to { byte ≤ NINE }

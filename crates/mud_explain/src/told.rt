@@ -1,4 +1,4 @@
-//! What is told of a step.
+//! Writes the results of steps.
 
 ghost use Rattle.std.specs.Prelude.{◌≡◌, ◌++◌, map, Ok, OnOk, codes, string_bytes};
 ghost use Rattle.std.specs.List.{flat_map};
@@ -11,7 +11,7 @@ use mud_guide::Answer;
 use mud_hall::{CloseFault, Fault, Reply, Settled};
 use std::alloc::{AllocError, Global};
 
-// The line of a fault.
+// Returns the line of a fault.
 fn fault_line(fault: Fault) -> &'static str
     ensures { result.now ≡ fault_line fault }
 {
@@ -49,14 +49,14 @@ pub(crate) fn push_answer(out: &mut String, answer: &Answer) -> Result<(), Alloc
     writeln!(out, "[{}] {}", answer.version, answer.text)
 }
 
-/// Appends how many entries a desk has seen.
+/// Appends the number of entries that a desk has seen.
 pub(crate) fn push_seen(out: &mut String, seen: u32) -> Result<(), AllocError>
     ensures { OnOk result (string_bytes out.new ≡ string_bytes out.old ++ seen_line seen) }
 {
     writeln!(out, "seen {seen}")
 }
 
-// Appends the lines that a desk was told.
+// Appends the notices of a desk.
 fn push_lines(out: &mut String, lines: &[String]) -> Result<(), AllocError>
     ensures { OnOk result (string_bytes out.new
         ≡ string_bytes out.old ++ flat_map (λ line. line ++ codes "\n") (map string_bytes lines.now)) }
@@ -68,7 +68,7 @@ fn push_lines(out: &mut String, lines: &[String]) -> Result<(), AllocError>
     Ok(())
 }
 
-/// Appends how many lines a desk was told, and the lines.
+/// Appends the number of notices of a desk, and the notices.
 pub(crate) fn push_told(out: &mut String, lines: &[String]) -> Result<(), AllocError>
     ensures { OnOk result (string_bytes out.new ≡ string_bytes out.old ++ told_lines (map string_bytes lines.now)) }
 {
@@ -76,7 +76,7 @@ pub(crate) fn push_told(out: &mut String, lines: &[String]) -> Result<(), AllocE
     push_lines(out, lines)
 }
 
-/// Appends what the desks made, and its history.
+/// Appends the result of a settlement, and its history.
 pub(crate) fn push_settled(
     out: &mut String,
     alloc: Global,
@@ -95,7 +95,7 @@ pub(crate) fn push_settled(
     history.write_text(alloc, out)
 }
 
-/// Appends why a hall was not closed.
+/// Appends the reason why a hall was not closed.
 pub(crate) fn push_unsettled(out: &mut String, fault: CloseFault) -> Result<(), AllocError>
     ensures { OnOk result (string_bytes out.new ≡ string_bytes out.old ++ unsettled_line fault) }
 {

@@ -1,4 +1,4 @@
-//! The units of a Telnet stream, as lines.
+//! Writes the units of a Telnet stream as lines.
 
 ghost use Rattle.std.specs.Prelude.{◌≡◌, ◌++◌, ◌<◌, ◌+◌, IfOk, OnOk, string_bytes};
 ghost use Rattle.std.specs.List.{flat_map};
@@ -10,10 +10,10 @@ ghost use Rattle.mud_explain.specs.inner.Texts.{byte_text, units_text};
 use mud_nvt::{Nvt, Unit};
 use std::alloc::{AllocError, Global};
 
-// The first of the letters that are digits of sixteen.
+// The first letter among the hexadecimal digits.
 const LETTER_A: u8 = b'A';
 
-// The units that the bytes give, where no byte came before them.
+// Returns the units of the bytes, from the initial state on.
 fn units_of(alloc: Global, input: &[u8]) -> Result<Vec<Unit>, AllocError>
     ensures { IfOk result (λ given. all_shown given.items ≡ units input.now) }
 {
@@ -25,7 +25,7 @@ fn units_of(alloc: Global, input: &[u8]) -> Result<Vec<Unit>, AllocError>
     }
 }
 
-// A digit of sixteen.
+// Returns a hexadecimal digit.
 fn hex_digit(value: u8) -> char
     requires { value < 16 }
     ensures { result ≡ hex_digit value }
@@ -37,7 +37,7 @@ fn hex_digit(value: u8) -> char
     }
 }
 
-// Appends each byte as two digits, a space in front of each.
+// Appends each byte as two digits, after a space.
 fn push_bytes(out: &mut String, bytes: &[u8]) -> Result<(), AllocError>
     ensures { OnOk result (string_bytes out.new ≡ string_bytes out.old ++ flat_map byte_text bytes.now) }
 {

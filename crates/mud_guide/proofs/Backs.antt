@@ -36,7 +36,7 @@ module _ (roads : Roads) (from : ℕ) (labels : ℕ → Option Label) (least : L
     is = least-one 1 roads from to (labels to) (after 1 d.least.0 s) (least to) d.least.2;
   }
 
-  -- the last step goes on with the route
+  -- the last step continues the route
   pub back-step : (to at : ℕ) (a : Arrival) → IsLast roads labels at (Some a) → (front rest : List Step)
       → ((more : List Step) → RouteBack 1 roads from at more → RouteBack 1 roads from to (front ++ more))
       → RouteBack 1 roads from a.by rest → RouteBack 1 roads from to (front ++ a.step ∷ rest)
@@ -48,7 +48,7 @@ module _ (roads : Roads) (from : ℕ) (labels : ℕ → Option Label) (least : L
         back,
       )
 
-  -- where there is none the route begins
+  -- without a last step the route begins
   pub back-none : (at : ℕ) (l : Label) → labels at ≡ Some l → IsLast roads labels at None → from ≡ at
   back-none at l is none =
       let P : Option Label → Type 0 = λ o. Least 1 roads from at o in
@@ -57,7 +57,7 @@ module _ (roads : Roads) (from : ℕ) (labels : ℕ → Option Label) (least : L
         | inr more ↦ absurd (none more.by more.step (least-ends at more.by more.step more.ends))
       ]
 
-  -- each step back has an exit less
+  -- each step back has one exit less
   pub back-less : (at : ℕ) (a : Arrival) → IsLast roads labels at (Some a)
       → exits_at (labels a.by) < exits_at (labels at)
   back-less at a last =

@@ -1,4 +1,4 @@
--- What the labels of a member claim.
+-- The claims of a member's labels.
 use Rattle.std.proofs.Common.{◌≡◌, ℕ, ◌<◌, ◌≤◌, inl, inr, List, [], ◌∷◌, ◌++◌, length, get_or, Option, None, Some}
 use Rattle.std.proofs.Common.{◌*◌, sym, ◌∙◌, ap, subst, arith}
 use Rattle.std.proofs.Common.{Vec, Global}
@@ -28,7 +28,7 @@ entries-limits labels next es few are bounded k d h =
     let b = bounded (get_or es k d).0 (get_or es k d).1 e.1 in
     (omega (arith, e.0), omega (arith, b.0), omega (arith, b.1))
 
--- and so are the exits of a way
+-- so are the exits of a way
 pub exits-limits : (next : ℕ) (way : Option (List Step)) (walk : Option (Vec ℕ Global)) → next ≤ NUMBERS
     → IfSome way (All (λ s. s.exit < next))
     → option_map (λ w. w.items) walk ≡ option_map exits_of way → IfSome (option_map (λ w. w.items) walk) (All IsNumber)
@@ -41,7 +41,7 @@ exits-limits next way walk few inside is =
     go None h = tt
     go (Some ss) h = All-map IsNumber (λ (s : Step). s.exit) ss (λ k d lt. omega (arith, h k d lt))
 
--- one more of the accounts
+-- one more account
 pub listed-push : (labels : ℕ → ℕ → Option Label) (next : ℕ) (js : List Leg) (es : List Account) (n : ℕ)
     (e : Account) → length es ≡ n
     → ((m : ℕ) (j : Leg) (a : Account) → m < length es → IsListed (labels m) next (get_or js m j) (get_or es m a))

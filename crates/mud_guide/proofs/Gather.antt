@@ -55,7 +55,7 @@ greatest-raise labels n cost l g e h = record {
   one = inr (n, (omega arith, (l, (e, refl))));
 }
 
--- there is one greatest cost
+-- the greatest cost is unique
 greatest-most : (labels : ℕ → Option Label) (n c d : ℕ) → IsGreatest labels n c → IsGreatest labels n d → c ≤ d
 greatest-most labels n c d a b = elim a.one [
   | inl none ↦ omega (arith, none.1)
@@ -87,7 +87,7 @@ best-skip labels members room (Some p) b none = record {
       ];
 }
 
--- a room is the best where all that gather in a room before it cost more
+-- a room is the best if each earlier room where all gather costs more
 best-new : (labels : ℕ → ℕ → Option Label) (members room cost : ℕ) → IsGreatest (λ m. labels m room) members cost
     → ((r c : ℕ) → r < room → IsGreatest (λ m. labels m r) members c → cost < c)
     → IsBest labels members (room + 1) (record { room = room; cost = cost })
@@ -160,7 +160,7 @@ pub best-greatest : (labels : ℕ → ℕ → Option Label) (members next : ℕ)
 best-greatest labels members next None b = tt
 best-greatest labels members next (Some p) b = b.gathers
 
--- those who go
+-- the members as travellers
 abbrev pub goers : State → List Knowledge → List Goer
 goers w ts = map (goer w) ts
 

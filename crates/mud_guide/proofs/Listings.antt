@@ -1,4 +1,4 @@
--- The listings of two parts are that of both.
+-- The listings of two parts make up that of the whole.
 use Rattle.std.proofs.Common.{◌≡◌, ℕ, ◌+◌, ◌-◌, ◌<◌, inl, inr, List, ◌++◌, length, get_or, Option}
 use Rattle.std.proofs.Common.{◌∙◌, ap, sym, subst, arith}
 use Rattle.std.proofs.lemmas.Bool.{cases_order}
@@ -16,7 +16,7 @@ use Rattle.mud_guide.specs.inner.Listings.{IsListed, AreListed, IsListing}
 use Rattle.mud_guide.proofs.Parts.{allzip-beside}
 use Rattle.mud_guide.proofs.Party.{allzip-length}
 
--- the members from the first on are all
+-- the members from the first on are all members
 pub listed-first : (labels : ℕ → ℕ → Option Label) (next : ℕ) (js : List Leg) (es : List Account)
     → AreListed (λ m. labels (0 + m)) next js es → AreListed labels next js es
 listed-first labels next js es are = record {
@@ -27,7 +27,7 @@ listed-first labels next js es are = record {
       subst P same (are.each m j a h);
 }
 
--- what is claimed of two parts
+-- the claims of two parts
 listed-beside : (labels : ℕ → ℕ → Option Label) (next first behind : ℕ) (us xs : List Leg) (vs ys : List Account)
     → behind ≡ first + length us → AreListed (λ m. labels (first + m)) next us vs
     → AreListed (λ m. labels (behind + m)) next xs ys → AreListed (λ m. labels (first + m)) next (us ++ xs) (vs ++ ys)

@@ -25,7 +25,7 @@ use Rattle.mud_guide.specs.inner.Arrivals.{Ends, IsLast, IsBy, ends}
 pub some-inj : {X : Type 0} (a b : X) → Some a ≡ Some b → a ≡ b
 some-inj a b e = cc
 
--- ---- what the labels say
+-- ---- the meaning of the labels
 ends-is : (l : Label) (s : Step) (o : Option Label) → ends l s.cost o ≡ true → o ≡ Some (after 1 l s)
 ends-is l s None e = absurd (cc)
 ends-is l s (Some k) e =
@@ -110,7 +110,7 @@ module _ (w : State) (sound : IsSound w) (p : ℕ) (labels : ℕ → Option Labe
 abbrev pub AreLeft : Roads → (ℕ → Option Label) → ℕ → List ℕ → Type 0
 AreLeft roads labels to xs = (by : ℕ) (s : Step) → Ends roads labels to by s → IsTrue (list_any (nat_eq s.exit) xs)
 
--- the first of them ends none
+-- the first of them does not end one
 pub left-more : (roads : Roads) (labels : ℕ → Option Label) (to i : ℕ) (xs : List ℕ) → i < length xs
     → AreLeft roads labels to (drop i xs) → (o : Option Arrival) → is_some o ≡ false
     → IsBy roads labels (get_or xs i 0) o → AreLeft roads labels to (drop (i + 1) xs)
@@ -123,7 +123,7 @@ left-more roads labels to i xs h left None none is = λ by s d.
       | inr rest ↦ rest
     ]
 
--- none is left
+-- no exit is left
 pub none-left : (roads : Roads) (labels : ℕ → Option Label) (to i : ℕ) (xs : List ℕ) → length xs ≤ i
     → AreLeft roads labels to (drop i xs) → IsLast roads labels to None
 none-left roads labels to i xs h left = λ by s d.
@@ -137,7 +137,7 @@ rising-above low n (x ∷ xs) rises among =
       | inr rest ↦ omega (arith, rises.0, rising-above (x + 1) n xs rises.1 rest)
     ]
 
--- what stands at a place or later is no less
+-- an element at a place or later is not less
 rising-from : (low i n : ℕ) (xs : List ℕ) → IsRisingFrom low xs → i < length xs
     → IsTrue (list_any (nat_eq n) (drop i xs)) → get_or xs i 0 ≤ n
 rising-from low i n [] rises h among = absurd (omega (arith, h))
@@ -158,7 +158,7 @@ module _ (w : State) (sound : IsSound w) (p : ℕ) (labels : ℕ → Option Labe
   pub all-left : AreLeft (roads_of w p) labels to xs
   all-left = λ by s d. (law.0 s.exit).1 (ap (option_map (λ q. q.destination)) (passage-ends w sound p labels to by s d))
 
-  -- the exit at a place ends one, and none did before
+  -- the exit at a place ends a least walk, and no earlier one did
   pub last-is : (i : ℕ) → i < length xs → AreLeft (roads_of w p) labels to (drop i xs) → (o : Option Arrival)
       → is_some o ≡ true → IsBy (roads_of w p) labels (get_or xs i 0) o → IsLast (roads_of w p) labels to o
   last-is i h left None some is = absurd (false≢true some)

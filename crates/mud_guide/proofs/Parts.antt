@@ -1,4 +1,4 @@
--- What holds of two parts of a party holds of both, and the other way round.
+-- A fact about two parts of a party holds for the whole, and conversely.
 use Rattle.std.proofs.Common.{◌≡◌, ℕ, ◌+◌, ◌<◌, List, [], ◌∷◌, ◌++◌, length, Option, Some}
 use Rattle.std.proofs.Common.{◌∙◌, ap, subst, ap₂, arith}
 use Rattle.std.specs.Prelude.{All, slice_get}
@@ -12,7 +12,7 @@ use Rattle.mud_roads.specs.Passable.{Knowledge, IsTraveller, roads_of}
 use Rattle.mud_roads.specs.Walks.{Least}
 use Rattle.mud_guide.specs.inner.Travellers.{AreTravellers, AreMembers}
 
--- one of the first stands where he stood
+-- a member of the first part keeps its index
 front-member : {X : Type 0} → (xs ys : List X) (m : ℕ) (x : X) → slice_get xs m ≡ Some x
     → slice_get (xs ++ ys) m ≡ Some x
 front-member xs ys m x is =
@@ -21,7 +21,7 @@ front-member xs ys m x is =
     slice_get-get_or (xs ++ ys) m x fits
     ∙ ap Some (get_or_append_left xs ys x m h ∙ get_or_from_slice_get xs m x x is)
 
--- another stands after them
+-- a member of the second part comes after them
 back-member : {X : Type 0} → (xs ys : List X) (m : ℕ) (x : X) → slice_get ys m ≡ Some x
     → slice_get (xs ++ ys) (length xs + m) ≡ Some x
 back-member xs ys m x is =
@@ -30,12 +30,12 @@ back-member xs ys m x is =
     slice_get-get_or (xs ++ ys) (length xs + m) x fits
     ∙ ap Some (get_or-append-add xs ys m x ∙ get_or_from_slice_get ys m x x is)
 
--- what holds of all holds of the first
+-- a fact about all holds for the first part
 all-front : {X : Type 0} → (P : X → Type 0) (xs ys : List X) → All P (xs ++ ys) → All P xs
 all-front P xs ys all k d h =
     subst P (get_or_append_left xs ys d k h) (all k d (omega (arith, h, length-append xs ys)))
 
--- and of the others
+-- and for the second
 all-back : {X : Type 0} → (P : X → Type 0) (xs ys : List X) → All P (xs ++ ys) → All P ys
 all-back P xs ys all k d h =
     subst P (get_or-append-add xs ys k d) (all (length xs + k) d (omega (arith, h, length-append xs ys)))
@@ -73,7 +73,7 @@ members_back w labels first behind ts xs ys these parted at =
       few = omega (arith, are.few, at, length-append xs ys);
     }
 
--- two lists that agree place by place, and two more after them
+-- two lists that agree element by element, followed by two more that do
 pub allzip-beside : {A B : Type 0} (R : A → B → Type 0) (us xs : List A) (vs ys : List B) → AllZip R us vs
     → AllZip R xs ys → AllZip R (us ++ xs) (vs ++ ys)
 allzip-beside R [] xs [] ys h k = k

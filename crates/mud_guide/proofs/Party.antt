@@ -1,4 +1,4 @@
--- What is claimed of a party is so, and the certificate is valid.
+-- The claims about a party are true, and the certificate is valid.
 use Rattle.std.proofs.Common.{◌≡◌, ◌≢◌, ℕ, suc, zero, ◌<◌, inl, inr, List, [], ◌∷◌, length, map, get_or, Option, None}
 use Rattle.std.proofs.Common.{Some, refl, sym, ◌∙◌, ap, subst, arith}
 use Rattle.std.specs.Prelude.{All, AllPairs, IfSome, IsTrue}
@@ -74,7 +74,7 @@ nobody = knowledge_of 0 0 [] []
 abbrev pub nowhere : Leg
 nowhere = record { player = 0; from = 0; way = None }
 
--- who goes stands where his leg begins
+-- a member's place is where its leg begins
 same-place : (w : State) (to : Option ℕ) (t : Knowledge) (j : Leg) → IsTraveller w t
     → IsLeg w to t.player j → t.place ≡ j.from
 same-place w to t j is goes = some-inj t.place j.from (sym is.place ∙ goes.from)
@@ -154,7 +154,7 @@ module _ (w : State) (sound : IsSound w) (to : Option ℕ) (ts : List Knowledge)
   members m d h = shown.valid w sound (who m).player (is-player m h) to (leg m) (goes m h) (labels m) (labelled m h)
       (get_or es m d) (party.listed.each m nowhere d h)
 
-  -- the same of any leg of that place
+  -- likewise for any leg at that index
   goes-from : (m : ℕ) (j : Leg) → m < length es → IsLeg w to (who m).player (get_or js m j)
   goes-from m j h = allzip-at (λ t j. IsLeg w to t.player j) ts js m nobody j party.go (within m h)
 
@@ -186,11 +186,11 @@ module _ (w : State) (sound : IsSound w) (to : Option ℕ) (ts : List Knowledge)
         conclusion = subst C (sym is) concludes;
       }
 
-  -- who is at no place
+  -- the default past the last account
   abbrev none-at-all : Account
   none-at-all = record { player = 0; from = 0; labels = []; walk = None }
 
-  -- what the labels of the certificate gather, those of the search do
+  -- the rooms that the certificate's labels gather are those of the search
   gathered-greatest : (r c : ℕ) → Gathers Labels es r c → IsGreatest (λ m. labels m r) (length ts) c
   gathered-greatest r c g =
       let inside : (m : ℕ) → m < length ts → m < length es = λ m h. omega (arith, h, party.listed.long, long-js) in
@@ -205,7 +205,7 @@ module _ (w : State) (sound : IsSound w) (to : Option ℕ) (ts : List Knowledge)
   gathered-gathers : (r c : ℕ) → 0 < length ts → Gathers Labels es r c → Gathers (HasLeast 1) (goers w ts) r c
   gathered-gathers r c some g = gathers-from_greatest w ts labels party.least r c some (gathered-greatest r c g)
 
-  -- and the other way round
+  -- and conversely
   greatest-gathered : (r c : ℕ) → 0 < length ts → IsGreatest (λ m. labels m r) (length ts) c → Gathers Labels es r c
   greatest-gathered r c some greatest = record {
     all = λ m d h. let own = greatest.all m (within m h) in (own.0, found m d h r ∙ own.1.0, own.1.1);
@@ -224,7 +224,7 @@ module _ (w : State) (sound : IsSound w) (to : Option ℕ) (ts : List Knowledge)
     ];
   }
 
-  -- where a label is, a way leads
+  -- a way leads to each labelled room
   way-there : (m : ℕ) → m < length es → (r : ℕ) → to ≡ Some r → (l : Label) → labels m r ≡ Some l → (ss : List Step)
       × (((leg m).way ≡ Some ss) × (cost_of ss ≡ l.cost))
   way-there m h r there l e =

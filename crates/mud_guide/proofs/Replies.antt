@@ -1,4 +1,4 @@
--- Answers say what they are to say.
+-- Answers have the stated meaning.
 use Rattle.std.proofs.Common.{◌≡◌, ◌≢◌, ℕ, ◌<◌, inl, inr, List, [], ◌∷◌, length, map, get_or, Option, None, Some, refl}
 use Rattle.std.proofs.Common.{sym, ◌∙◌, subst, arith}
 use Rattle.std.specs.Prelude.{All, AllPairs, IfSome, IsTrue, string_bytes}
@@ -35,7 +35,7 @@ use Rattle.mud_guide.proofs.Gather.{goers}
 use Rattle.mud_guide.proofs.Party.{IsParty, goers-same, legs-of, accounts, all-valid, concludes-meet}
 use Rattle.mud_guide.proofs.Party.{concludes-route}
 
--- what the certificate is made of
+-- the parts of the certificate
 pub record IsMade (w : State) (v : ℕ) (labels : ℕ → ℕ → Option Label) (js : List Leg) (says : Conclusion)
     (c : Certificate) : Type 0 where
   pub version : c.version ≡ v
@@ -92,7 +92,7 @@ all-one P x p k d h =
     let Q : ℕ → Type 0 = λ i. P (get_or (x ∷ []) i d) in
     subst Q (sym same) p
 
--- the least labels of a slice that has one traveller
+-- the least labels of a slice with one traveller
 pub least_of_one : (w : State) (t : Knowledge) (ts : List Knowledge) (labels : ℕ → ℕ → Option Label) → ts ≡ t ∷ []
     → AreLeast w ts labels → AreLeast w (t ∷ []) labels
 least_of_one w t ts labels is least =
@@ -109,7 +109,7 @@ apart-from ts apart i j d lt h same =
     λ k lt. get_or-map (λ (t : Knowledge). t.player) ts k d 0 lt in
     apart i j 0 lt inside (at i (omega (arith, lt, h)) ∙ same ∙ sym (at j h))
 
--- what is made of a party's labels is its certificate, and a valid one
+-- the certificate made from a party's labels is the right one, and valid
 certified : (w : State) → IsSound w → (v : ℕ) (to : Option ℕ) (ts : List Knowledge) (js : List Leg)
     (labels : ℕ → ℕ → Option Label) (says : Conclusion) (c : Certificate) (o : Option Certificate)
     → IsParty w to ts js labels c.members → IsMade w v labels js says c → Agrees w Labels c.members says → o ≡ Some c

@@ -1,4 +1,4 @@
--- Entries that rise by their numbers are determined by which they are.
+-- A sorted list is determined by its elements.
 use Rattle.std.proofs.Common.{◌≡◌, ℕ, ◌<◌, ◌⊎◌, inl, inr, List, [], ◌∷◌, suc, refl, sym, ◌∙◌, ap, subst, arith}
 use Rattle.std.specs.Prelude.{Contains, AllPairs}
 use Rattle.mud_roads.specs.declared.label.Label.{Label}
@@ -10,7 +10,7 @@ Entry = ℕ × Label
 abbrev pub Below : Entry → Entry → Type 0
 Below d e = d.0 < e.0
 
--- all that the one list has the other has
+-- each element of the one list is one of the other
 abbrev pub AreAmong : List Entry → List Entry → Type 0
 AreAmong fs es = (x : Entry) → Contains es x → Contains fs x
 
@@ -32,7 +32,7 @@ same-head e f es fs p q there back =
     go (inr c) (inl same) = same
     go (inr c) (inr d) = absurd (omega (arith, rising-head e es p f d, rising-head f fs q e c))
 
--- what comes after the same first one is among what comes after it
+-- the rest after equal first elements is among the other rest
 same-among : (e f : Entry) (es fs : List Entry) → AllPairs Below (e ∷ es) → e ≡ f
     → AreAmong (f ∷ fs) (e ∷ es) → AreAmong fs es
 same-among e f es fs p same there x c = go (contains-cases f x fs (there x (contains-tail e x es c)))

@@ -1,4 +1,4 @@
--- What is claimed of one member is so.
+-- The claims about one member are true.
 use Rattle.std.proofs.Common.{◌≡◌, ℕ, ◌<◌, ◌⊎◌, inl, inr, false, List, [], ◌∷◌, get_or, Option, None, Some, refl, sym}
 use Rattle.std.proofs.Common.{◌∙◌, ap, subst, arith}
 use Rattle.std.specs.Prelude.{Contains, All, IfSome, IsTrue}
@@ -136,7 +136,7 @@ module _ (w : State) (sound : IsSound w) (p : ℕ) (player : IsTrue (is_player w
           let bad : Some (get_or a.labels i d).1 ≡ None = sym at.1 ∙ ap labels same ∙ e in
           cc)
 
-  -- what is claimed, with the player and his place
+  -- the claims about the player and its place
   abbrev own : Account
   own = record { player = p; from = j.from; labels = a.labels; walk = option_map exits_of j.way }
 
@@ -150,7 +150,7 @@ module _ (w : State) (sound : IsSound w) (p : ℕ) (player : IsTrue (is_player w
       λ k. record { player = a.player; from = a.from; labels = a.labels; walk = k } in
       ap one (sym goes.player ∙ sym listed.player) ∙ ap two (sym listed.from) ∙ ap three (sym listed.walk)
 
-  -- his way leads where it is to, and its label is that of the room
+  -- the way leads to the target, and its label is that of the room
   abbrev Fits : Account → ℕ → List Step → Type 0
   Fits m r ss = States w m r ss × (label_at m r ≡ Some (total 1 ss))
 
@@ -181,7 +181,7 @@ module _ (w : State) (sound : IsSound w) (p : ℕ) (player : IsTrue (is_player w
         walk = way-walk to j.way refl goes.way;
       })
 
-  -- his walk ends there, and its label is that of the room
+  -- the walk ends there, and its label is that of the room
   pub arrives : (r : ℕ) (ss : List Step) → to ≡ Some r → j.way ≡ Some ss → States w a r ss
       × (label_at a r ≡ Some (total 1 ss))
   arrives r ss there way =
@@ -190,6 +190,6 @@ module _ (w : State) (sound : IsSound w) (p : ℕ) (player : IsTrue (is_player w
       subst (P (Some r)) way (subst (λ (o : Option ℕ). P o j.way) there goes.way) in
       subst (λ (m : Account). Fits m r ss) own-is (fits r ss way route)
 
-  -- without a way he stays
+  -- without a way there is no walk
   pub stays : j.way ≡ None → a.walk ≡ None
   stays e = listed.walk ∙ ap (option_map exits_of) e

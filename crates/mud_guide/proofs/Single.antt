@@ -40,7 +40,7 @@ way_to-one : (w : State) → IsSound w → (p from : ℕ) (to : Option ℕ) (a b
 way_to-one w sound p from None a b x y = x ∙ sym y
 way_to-one w sound p from (Some to) a b x y = way-one w sound p from to a b x y
 
--- who goes, and from where, whatever the rooms are to which they go
+-- the player and its start, whatever the target is
 same-start : (w : State) (to to' : Option ℕ) (p : ℕ) (i j : Leg) → IsLeg w to p i → IsLeg w to' p j
     → (i.player ≡ j.player) × (i.from ≡ j.from)
 same-start w to to' p i j x y = (x.player ∙ sym y.player, some-inj i.from j.from (sym x.from ∙ y.from))

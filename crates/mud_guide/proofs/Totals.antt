@@ -33,7 +33,7 @@ route_is_least roads from to ss r =
     let W : List Step → Type 0 = λ xs. Walk roads from xs to × IsLeast 1 roads from to (total 1 xs) in
     subst W (reverse-reverse ss) (back-least roads from to (reverse ss) r)
 
--- the route costs what the label of its end says
+-- the cost of the route is that of its end's label
 pub way-cost : (roads : Roads) (from to : ℕ) (labels : ℕ → Option Label) → Labelled roads from labels
     → (l : Label) → labels to ≡ Some l
     → (ss : List Step) → IsRoute 1 roads from to ss → l.cost ≡ cost_of ss

@@ -1,4 +1,4 @@
--- The exits of a walk as they are told.
+-- The exits of a walk as they are written.
 use Rattle.std.proofs.Common.{◌≡◌, ◌++◌, ◌<◌, List, [], ◌∷◌, length, refl, arith}
 use Rattle.std.specs.Prelude.{codes, decimal}
 use Rattle.std.specs.List.{flat_map}
@@ -6,12 +6,12 @@ use Rattle.mud_roads.specs.declared.label.Step.{Step}
 use Rattle.mud_cert.specs.Text.{exits_text}
 use Rattle.mud_guide.specs.Ways.{exits_of}
 
--- without a step they are nothing
+-- a walk without steps
 pub exits_none : (steps : List Step) → length steps ≡ 0 → exits_text (exits_of steps) ≡ codes " nothing"
 exits_none [] none = refl
 exits_none (s ∷ steps) none = absurd (omega arith)
 
--- with one they are told one by one
+-- a walk with steps, one by one
 pub exits_some : (steps : List Step) → 0 < length steps
     → exits_text (exits_of steps) ≡ flat_map (λ exit. codes " #" ++ decimal exit) (exits_of steps)
 exits_some [] some = absurd (omega arith)

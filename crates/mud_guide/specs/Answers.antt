@@ -24,7 +24,7 @@ pub record IsCertOf (w : State) (v : ℕ) (js : List Leg) (says : Conclusion) (c
   pub conclusion : c.conclusion ≡ says
   pub limits : IsCertificate c
 
--- the text tells the player's leg to the room, and a valid certificate shows it to be best
+-- the text states the player's leg to the room, and a valid certificate proves it optimal
 pub record IsRouteAnswer (w : State) (v p to : ℕ) (a : Answer) : Type 0 where
   pub leg : Leg
   pub goes : IsLeg w (Some to) p leg
@@ -33,7 +33,7 @@ pub record IsRouteAnswer (w : State) (v p to : ℕ) (a : Answer) : Type 0 where
   pub cert : IsSomeAnd a.cert (IsCertOf w v (leg ∷ []) (Route to (option_map cost_of leg.way)))
   pub valid : IsSomeAnd a.cert (IsValid w)
 
--- the text tells where the party meets and each member's leg there, and a valid certificate shows it to be best
+-- the text states the meeting room and each member's leg there, and a valid certificate proves it optimal
 pub record IsMeetAnswer (w : State) (v : ℕ) (party : List ℕ) (a : Answer) : Type 0 where
   pub place : Option Meeting
   pub legs : List Leg

@@ -1,4 +1,4 @@
--- What the guide says; a line ends at LF.
+-- The texts of the guide; LF ends a line.
 use Rattle.std.specs.Prelude.{ℕ, List, ◌∷◌, ◌++◌, Option, None, Some, codes, decimal}
 use Rattle.std.specs.List.{flat_map}
 pub use Rattle.mud_key.specs.Printed.{number_text as object}

@@ -1,4 +1,4 @@
-//! What a certificate claims of each member.
+//! Makes the claims of a certificate for each member.
 
 ghost use Rattle.std.specs.Prelude.{◌≡◌, ◌+◌, ◌≤◌, All, IfOk, length};
 ghost use Rattle.std.specs.Option.{option_map};
@@ -15,7 +15,7 @@ use mud_roads::Step;
 use mud_search::Labels;
 use std::alloc::{AllocError, Global};
 
-// The exits of a walk.
+// Returns the exits of a walk.
 fn exits_of(alloc: Global, steps: &[Step]) -> Result<Vec<u32>, AllocError>
     ensures { IfOk result (λ exits. exits.items ≡ exits_of steps.now) }
 {
@@ -26,7 +26,7 @@ fn exits_of(alloc: Global, steps: &[Step]) -> Result<Vec<u32>, AllocError>
     Ok(exits)
 }
 
-// The exits of a way, if there is one.
+// Returns the exits of a way, if there is one.
 fn walk_of(alloc: Global, way: &Option<Way>) -> Result<Option<Vec<u32>>, AllocError>
     ensures { IfOk result (λ walk. option_map (λ exits. exits.items) walk ≡ option_map exits_of way.now) }
 {
@@ -36,7 +36,7 @@ fn walk_of(alloc: Global, way: &Option<Way>) -> Result<Option<Vec<u32>>, AllocEr
     }
 }
 
-// What is claimed of the one whose leg it is.
+// Returns the claims about the member of a leg.
 fn account_of(
     alloc: Global,
     next: u32,
@@ -55,7 +55,7 @@ fn account_of(
     Ok(Member::new(leg.player, leg.from, entries, walk))
 }
 
-/// What is claimed of all whose legs these are. They are the members from a number on.
+/// Returns the claims about all members of these legs. They are the members from a number on.
 pub(crate) fn accounts_of(
     alloc: Global,
     next: u32,

@@ -5,15 +5,14 @@ ghost use Rattle.mud_world.specs.declared.limits.TheConstants.{MOST_ENTRIES};
 
 use mud_cert::Cert;
 
-/// An answer of the guide: of which world it speaks, what it says, and the certificate that shows
-/// it to be best.
+/// An answer of the guide: the version of its world, its text, and the certificate that proves it optimal.
 #[derive(Drop)]
 pub struct Answer {
-    /// How many changes the world has that it speaks of: at most 65,536.
+    /// The number of changes of the world that it is about: at most 65,536.
     pub version: u32,
-    /// What it says; lines are joined by LF.
+    /// The text; LF separates its lines.
     pub text: String,
-    /// What shows it to be best.
+    /// The certificate that proves it optimal.
     pub cert: Option<Cert>,
     ghost few: { version ≤ MOST_ENTRIES },
 }

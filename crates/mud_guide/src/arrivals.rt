@@ -16,7 +16,7 @@ pub(crate) struct Arrival {
     pub(crate) step: Step,
 }
 
-/// The step of the lowest exit that ends a least walk to the room, if there is one. It takes no memory.
+/// Returns the step of the lowest exit that ends a least walk to the room, if there is one. It does not allocate.
 pub(crate) fn last_step(
     world: &World,
     traveller: &Traveller,
@@ -27,7 +27,7 @@ pub(crate) fn last_step(
     requires { IsTraveller world.now traveller.now }
     ensures { IsLast (roads_of world.now traveller.now.player) (label_in labels.now member) to result }
 {
-    // for the prover: `next_number` says that the world is sound
+    // for the prover: `next_number` shows that the world is sound
     let _known = world.next_number();
     for exit in world.arriving(to) {
         let arrival = arrival_by(world, traveller, labels, member, *exit);
@@ -38,7 +38,7 @@ pub(crate) fn last_step(
     None
 }
 
-// The step of the exit, if it is open to him and ends a least walk.
+// Returns the step of the exit, if it is open to the traveller and ends a least walk.
 fn arrival_by(
     world: &World,
     traveller: &Traveller,
@@ -49,7 +49,7 @@ fn arrival_by(
     requires { IsTraveller world.now traveller.now }
     ensures { IsBy (roads_of world.now traveller.now.player) (label_in labels.now member) exit result }
 {
-    // for the prover: `next_number` says that the world is sound
+    // for the prover: `next_number` shows that the world is sound
     let _known = world.next_number();
     let passage = world.passage(exit)?;
     let label = labels.get(member, passage.source)?;
@@ -63,7 +63,7 @@ fn arrival_by(
     })
 }
 
-// Whether the label there is that of the room before, a step of this cost on.
+// Returns whether the label there is the label before it, after a step of this cost.
 fn ends(label: Label, cost: u32, there: Option<Label>) -> bool
     ensures { result ≡ ends label cost there }
 {

@@ -1,4 +1,4 @@
-//! What the guide is asked.
+//! The questions to the guide.
 
 ghost use Rattle.std.specs.Prelude.{◌≡◌, ◌≢◌, ◌≤◌, [], ◌∷◌, All, AllPairs, IfOk, IsTrue, length, map};
 ghost use Rattle.std.specs.Option.{option_map};
@@ -26,9 +26,9 @@ use mud_world::World;
 use std::alloc::{AllocError, Global};
 use std::slice;
 
-/// The canonical route of a player from his place to a room, or that no walk leads there. The certificate has the least
-/// label of every room that he reaches. `version` says how many changes the world has, at most 65,536. The only error
-/// is out of memory.
+/// Returns the canonical route of a player from its place to a room, or that no walk leads there. The certificate has
+/// the least label of every room that the player reaches. `version` is the number of changes of the world, at most
+/// 65,536. The only error is out of memory.
 pub fn route_alone(
     alloc: Global,
     world: &World,
@@ -45,7 +45,7 @@ pub fn route_alone(
     route_of_alone(alloc, world, version, &traveller, room)
 }
 
-/// Answers as [`route_alone`] for a traveller of this world who is at hand.
+/// Answers like [`route_alone`], for a traveller of this world that the caller has already.
 pub fn route_of_alone(
     alloc: Global,
     world: &World,
@@ -62,7 +62,7 @@ pub fn route_of_alone(
     route_from(alloc, world, version, traveller, &labels, room)
 }
 
-// The route of a traveller, from his least labels.
+// Returns the route of a traveller, given its least labels.
 pub(crate) fn route_from(
     alloc: Global,
     world: &World,
@@ -94,9 +94,9 @@ pub(crate) fn route_from(
     })
 }
 
-/// The room where a party meets and the canonical route of each member to it, or that there is no room where all come.
-/// The certificate has the least label of every room for each member. `version` says how many changes the world has, at
-/// most 65,536. The only error is out of memory.
+/// Returns the room where a party meets and the canonical route of each member to it, or that no room can be reached by
+/// all. The certificate has the least label of every room for each member. `version` is the number of changes of the
+/// world, at most 65,536. The only error is out of memory.
 pub fn meet_alone(
     alloc: Global,
     world: &World,
@@ -122,7 +122,7 @@ pub fn meet_alone(
     )
 }
 
-// The travellers who are these players.
+// Returns these players as travellers.
 pub(crate) fn travellers_of(
     alloc: Global,
     world: &World,
@@ -139,7 +139,7 @@ pub(crate) fn travellers_of(
     Ok(travellers)
 }
 
-// Where travellers meet, from their least labels.
+// Returns the meeting of travellers, given their least labels.
 pub(crate) fn meet_from<L: Lister>(
     lister: &L,
     alloc: Global,
@@ -169,7 +169,7 @@ pub(crate) fn meet_from<L: Lister>(
     })
 }
 
-// What a way costs, if there is one.
+// Returns the cost of a way, if there is one.
 fn cost_of(way: &Option<Way>) -> Option<u32>
     ensures { result ≡ option_map cost_of way.now }
 {
@@ -179,7 +179,7 @@ fn cost_of(way: &Option<Way>) -> Option<u32>
     }
 }
 
-// The room of a meeting, if there is one.
+// Returns the room of a meeting, if there is one.
 fn room_of(place: Option<Meeting>) -> Option<u32>
     ensures { result ≡ option_map (λ p. p.room) place }
 {
@@ -189,7 +189,7 @@ fn room_of(place: Option<Meeting>) -> Option<u32>
     }
 }
 
-// The certificate that claims this of its members.
+// Returns the certificate with these members and this conclusion.
 fn certificate(version: u32, accounts: Vec<Member>, conclusion: Conclusion) -> Cert
     requires version { version ≤ MOST_ENTRIES }
     requires accounts { All IsAccount accounts.items }

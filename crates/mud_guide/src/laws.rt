@@ -1,4 +1,4 @@
-//! Facts about definitions only: each contract is a law, and its function does nothing.
+//! Laws of the definitions. Each contract is a law, and its function does nothing.
 
 ghost use Rattle.mud_guide.specs.Laws.{RouteIsLeast, AreAlike};
 ghost use Rattle.mud_world.specs.Sound.{IsSound};
@@ -12,15 +12,15 @@ pub fn routes()
     ensures { RouteIsLeast }
 {}
 
-/// In a sound world a question about a route has one answer: two answers to it have the same
-/// version, the same bytes of text and the same certificate.
+/// In a sound world a question for a route has one answer: two answers to it have the same version, the same bytes of
+/// text and the same certificate.
 pub fn one_route_answer()
     ensures { (w : State) → IsSound w → (v p to : ℕ) (a b : Answer) → IsRouteAnswer w v p to a
         → IsRouteAnswer w v p to b
         → AreAlike a b }
 {}
 
-/// In a sound world a question about a meeting has one answer in the same way.
+/// In a sound world a question for a meeting has one answer, in the same sense.
 pub fn one_meet_answer()
     ensures { (w : State) → IsSound w → (v : ℕ) (party : List ℕ) (a b : Answer)
         → IsMeetAnswer w v party a → IsMeetAnswer w v party b → AreAlike a b }

@@ -1,4 +1,4 @@
-//! Who goes which way.
+//! Legs: the parts of an answer, one for each player.
 
 ghost use Rattle.std.specs.Prelude.{IfOk};
 ghost use Rattle.std.specs.List.{AllZip};
@@ -16,7 +16,8 @@ use mud_world::World;
 use std::alloc::{AllocError, Global};
 use std::marker::Model;
 
-/// Who goes, from which room, and which way; none where no walk leads, or there is nowhere to go.
+/// A player, the room where it starts, and its way. There is no way if no walk leads to the target, or if there is no
+/// target.
 #[derive(Drop)]
 pub(crate) struct Leg {
     pub(crate) player: u32,
@@ -32,7 +33,7 @@ impl Model for Leg {
     ghost view = { λ j. record { player = j.player; from = j.from; way = j.way } };
 }
 
-/// The leg of a member to a room, if there is one to go to.
+/// Returns the leg of a member to a room, if there is one to go to.
 pub(crate) fn leg_to(
     alloc: Global,
     world: &World,
@@ -57,8 +58,7 @@ pub(crate) fn leg_to(
     })
 }
 
-/// The legs of all members to a room, if there is one to go to. The members are those from a
-/// number on.
+/// Returns the legs of all members to a room, if there is one to go to. The members are those from a number on.
 pub(crate) fn legs_to(
     alloc: Global,
     world: &World,

@@ -1,27 +1,26 @@
-//! The guide: which way a player goes to a room, and where a party meets, each with a certificate
-//! that shows the answer to be best.
+//! The guide: the route of a player to a room, and the meeting of a party, each with a certificate that proves the
+//! answer optimal.
 //!
-//! | Call | Answer |
+//! | Call | Result |
 //! |---|---|
 //! | [`route_alone`] | the canonical route of a player to a room, or that no walk leads there |
 //! | [`meet_alone`] | the room where a party meets and each member's route there, or that there is none |
-//! | [`route`], [`meet`] | the same, by several workers |
-//! | [`route_of_alone`], [`route_of`] | the route of a traveller who is at hand |
+//! | [`route`], [`meet`] | the same, computed by several workers |
+//! | [`route_of_alone`], [`route_of`] | the route of a traveller that the caller has already |
 //!
-//! An [`Answer`] has the text of the reply and a certificate, which a checker can read without
-//! trust in this crate: it lists for each member the least label of every room that he reaches.
-//! docs/GUIDE.md has the rules and the promises in plain words.
+//! An [`Answer`] has the text of the reply and a certificate, which lists for each member the least label of every room
+//! that it reaches. A checker needs no trust in this crate. docs/GUIDE.md has the rules and the promises in plain
+//! words.
 //!
 //! ```text
 //! let answer = route_alone(alloc, &world, 0, 1, 2)?;
 //! assert_eq!(rt; answer.text.as_str(), "route #0 to #2 cost 1 by #3");
 //! ```
 //!
-//! Proved is that the text tells the canonical route, or the meeting room of least greatest cost and the route of each
-//! member, as specs/Walks.antt of mud_roads defines them, that it says `no way` and `no meeting` exactly where there is
-//! none, and that the certificate has exactly the least labels and these routes and keeps the limits of certificates,
-//! so that its text can be read back. The only error is out of memory. The laws of the definitions are the contracts of
-//! [`laws`].
+//! Proved: the text states the canonical route, or the meeting room with the least greatest cost and the route of each
+//! member, as specs/Walks.antt of mud_roads defines them. It says `no way` or `no meeting` exactly if there is none.
+//! The certificate has exactly the least labels and these routes, and keeps the limits of certificates, so its text
+//! reads back. The only error is out of memory. The contracts of [`laws`] are the laws of the definitions.
 #![tactic(auto)]
 
 mod accounts;

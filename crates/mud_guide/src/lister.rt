@@ -1,4 +1,4 @@
-//! Who lists the legs of a party, and what a certificate claims of its members.
+//! Listers: they compute the legs of a party, and a certificate's claims about its members.
 
 ghost use Rattle.std.specs.Prelude.{⊤, IfOk};
 ghost use Rattle.std.specs.Thread.{IsSync};
@@ -15,16 +15,16 @@ use mud_world::World;
 use std::alloc::{AllocError, Global};
 use std::thread::{Threads, join};
 
-/// How the members of a party go, and what is claimed of each.
+/// The legs of a party's members, and the claims about each.
 #[derive(Drop)]
 pub(crate) struct Listing {
     pub(crate) legs: Vec<Leg>,
     pub(crate) accounts: Vec<Member>,
 }
 
-/// Lists how all members go to a room, if there is one to go to, and what is claimed of them.
+/// Lists the legs of all members to a room, if there is one to go to, and the claims about them.
 pub(crate) trait Lister {
-    // What a caller must know of it: of several workers, that threads may share their handle.
+    // The precondition of a lister: with several workers, threads may share their handle.
     ghost ready: { Self → Type 0 } = { λ _. ⊤ };
 
     fn list(
@@ -41,7 +41,7 @@ pub(crate) trait Lister {
         ensures { IfOk result (IsListing world.now (label_in labels.now) 0 to party.now) };
 }
 
-/// The caller's thread alone.
+/// The caller's thread without other workers.
 #[derive(Clone, Copy, Drop)]
 pub(crate) struct Alone;
 
@@ -58,7 +58,7 @@ impl Lister for Alone {
     }
 }
 
-/// So many workers, of whom the caller's thread is one.
+/// Several workers; the caller's thread is one of them.
 #[derive(Drop)]
 pub(crate) struct Crew<'a, R: Threads + Sync> {
     pub(crate) rt: &'a R,
@@ -80,7 +80,7 @@ impl<'a, R: Threads + Sync> Lister for Crew<'a, R> {
     }
 }
 
-// The listing of members from a number on.
+// Returns the listing of members from a number on.
 fn listing_of(
     alloc: Global,
     world: &World,
@@ -99,8 +99,8 @@ fn listing_of(
     Ok(Listing { legs, accounts })
 }
 
-// The listing of members from a number on: of the last of them apart, by the last workers, as long as
-// there are two members and two workers.
+// Returns the listing of members from a number on. While there are two members and two workers, the last members are
+// split off for the last workers.
 #[tactic(auto, using(crate::proofs::Parts::members_front, crate::proofs::Parts::members_back))]
 fn listing_with<R: Threads + Sync>(
     crew: &Crew<'_, R>,

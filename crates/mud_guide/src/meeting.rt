@@ -1,4 +1,4 @@
-//! Where a party meets.
+//! Finds the meeting room of a party.
 
 ghost use Rattle.std.specs.Prelude.{◌≡◌, ◌<◌, ℕ, All, IfSome, IfNone, IsTrue, length, map};
 ghost use Rattle.mud_world.specs.State.{is_room};
@@ -15,7 +15,7 @@ use mud_roads::Traveller;
 use mud_search::Labels;
 use mud_world::World;
 
-// The greatest cost of the members at a room, if all reach it.
+// Returns the greatest cost of the members at a room, if all reach it.
 fn greatest(labels: &Labels, members: usize, room: u32) -> Option<u32>
     ensures some { IfSome result (λ cost. IsGreatest (λ m. label_in labels.now m room) members cost) }
     ensures none { IfNone result ((cost : ℕ) → IsGreatest (λ m. label_in labels.now m room) members cost → ⊥) }
@@ -32,7 +32,7 @@ fn greatest(labels: &Labels, members: usize, room: u32) -> Option<u32>
     Some(cost)
 }
 
-// Of the rooms that all members reach the one of least greatest cost, then of lowest number.
+// Returns the room with the least greatest cost, then with the lowest number, among those that all members reach.
 fn best(labels: &Labels, members: usize, next: u32) -> Option<Meeting>
     ensures some { IfSome result (IsBest (label_in labels.now) members next) }
     ensures none { IfNone result (NoneGather (label_in labels.now) members next) }
@@ -46,7 +46,7 @@ fn best(labels: &Labels, members: usize, next: u32) -> Option<Meeting>
     best
 }
 
-// The place of lesser cost, the earlier where they are alike.
+// Returns the place with the lesser cost; among equals, the earlier one.
 fn lesser(best: Option<Meeting>, room: u32, cost: u32) -> Option<Meeting>
     ensures { result ≡ lesser best room cost }
 {
@@ -56,7 +56,7 @@ fn lesser(best: Option<Meeting>, room: u32, cost: u32) -> Option<Meeting>
     }
 }
 
-/// The room where a party meets, from the least labels of its members.
+/// Returns the meeting room of a party, given the least labels of its members.
 pub(crate) fn meeting_place(world: &World, party: &[Traveller], labels: &Labels) -> Option<Meeting>
     requires travellers { All (IsTraveller world.now) party.now }
     requires some { 0 < length party.now }

@@ -1,4 +1,4 @@
-//! Routes.
+//! Builds routes.
 
 ghost use Rattle.std.specs.Prelude.{IfOk, IsSome};
 ghost use Rattle.mud_roads.specs.Walks.{IsRoute};
@@ -14,7 +14,7 @@ use mud_search::Labels;
 use mud_world::World;
 use std::alloc::{AllocError, Global};
 
-// The route of a member to a room that he reaches: back from the room, each time by the lowest exit
+// Returns the route of a member to a room that it reaches. It goes back from the room, each time by the lowest exit
 // that ends a least walk.
 fn walk_to(
     alloc: Global,
@@ -40,7 +40,7 @@ fn walk_to(
     Ok(steps)
 }
 
-/// The route of a member to a room, if he reaches it.
+/// Returns the route of a member to a room, if it reaches the room.
 pub(crate) fn way_to(
     alloc: Global,
     world: &World,

@@ -1,4 +1,4 @@
-//! What the guide says.
+//! The texts of the guide.
 
 ghost use Rattle.std.specs.Prelude.{◌≡◌, ◌++◌, OnOk, IfOk, Some, string_bytes, codes, decimal};
 ghost use Rattle.std.specs.List.{flat_map};
@@ -14,7 +14,7 @@ use mud_cert::Meeting;
 use mud_roads::Step;
 use std::alloc::{AllocError, Global};
 
-// Writes an object, with what stands before it.
+// Appends words and an object.
 fn push_object(
     alloc: Global,
     text: &mut String,
@@ -28,7 +28,7 @@ fn push_object(
     text.push_str(object.as_str())
 }
 
-// Writes the exits of a walk.
+// Appends the exits of a walk.
 fn push_exits(alloc: Global, text: &mut String, steps: &[Step]) -> Result<(), AllocError>
     ensures { OnOk result (string_bytes text.new ≡ string_bytes text.old
         ++ flat_map (λ exit. codes " #" ++ decimal exit) (exits_of steps.now)) }
@@ -39,7 +39,7 @@ fn push_exits(alloc: Global, text: &mut String, steps: &[Step]) -> Result<(), Al
     Ok(())
 }
 
-// Writes a walk by its exits.
+// Appends a walk as its exits.
 #[tactic(auto, using(crate::proofs::Walked::exits_none, crate::proofs::Walked::exits_some))]
 fn push_walk(alloc: Global, text: &mut String, steps: &[Step]) -> Result<(), AllocError>
     ensures { OnOk result (string_bytes text.new
@@ -53,7 +53,7 @@ fn push_walk(alloc: Global, text: &mut String, steps: &[Step]) -> Result<(), All
     }
 }
 
-// Writes the cost of a walk, and the walk.
+// Appends the cost of a walk, and the walk.
 fn push_cost(alloc: Global, text: &mut String, way: &Way) -> Result<(), AllocError>
     ensures { OnOk result (string_bytes text.new ≡ string_bytes text.old ++ way_text (Some way.now)) }
 {
@@ -63,7 +63,7 @@ fn push_cost(alloc: Global, text: &mut String, way: &Way) -> Result<(), AllocErr
     push_walk(alloc, text, way.steps())
 }
 
-// Writes a way, or that there is none.
+// Appends a way, or that there is none.
 fn push_way(alloc: Global, text: &mut String, way: &Option<Way>) -> Result<(), AllocError>
     ensures { OnOk result (string_bytes text.new ≡ string_bytes text.old ++ way_text way.now) }
 {
@@ -73,8 +73,7 @@ fn push_way(alloc: Global, text: &mut String, way: &Option<Way>) -> Result<(), A
     }
 }
 
-/// What the guide says of a route to a room: `route #0 to #2 cost 7 by #5 #6`, or `route #0 to #2
-/// no way`.
+/// Returns the text of a route to a room: `route #0 to #2 cost 7 by #5 #6`, or `route #0 to #2 no way`.
 pub(crate) fn route_text(alloc: Global, to: u32, leg: &Leg) -> Result<String, AllocError>
     ensures { IfOk result (λ text. string_bytes text ≡ route_text to leg.now) }
 {
@@ -85,7 +84,7 @@ pub(crate) fn route_text(alloc: Global, to: u32, leg: &Leg) -> Result<String, Al
     Ok(text)
 }
 
-// Writes the players of a party.
+// Appends the players of a party.
 fn push_players(alloc: Global, text: &mut String, legs: &[Leg]) -> Result<(), AllocError>
     ensures { OnOk result (string_bytes text.new ≡ string_bytes text.old
         ++ flat_map (λ j. codes " " ++ object j.player) legs.now) }
@@ -96,7 +95,7 @@ fn push_players(alloc: Global, text: &mut String, legs: &[Leg]) -> Result<(), Al
     Ok(())
 }
 
-// Writes the line of a member.
+// Appends the line of a member.
 fn push_member(alloc: Global, text: &mut String, leg: &Leg) -> Result<(), AllocError>
     ensures { OnOk result (string_bytes text.new ≡ string_bytes text.old ++ member_text leg.now) }
 {
@@ -105,7 +104,7 @@ fn push_member(alloc: Global, text: &mut String, leg: &Leg) -> Result<(), AllocE
     push_way(alloc, text, &leg.way)
 }
 
-// Writes a line for each member.
+// Appends a line for each member.
 fn push_members(alloc: Global, text: &mut String, legs: &[Leg]) -> Result<(), AllocError>
     ensures { OnOk result (string_bytes text.new ≡ string_bytes text.old ++ flat_map member_text legs.now) }
 {
@@ -115,7 +114,7 @@ fn push_members(alloc: Global, text: &mut String, legs: &[Leg]) -> Result<(), Al
     Ok(())
 }
 
-// Writes a place and its cost, and a line for each member.
+// Appends a place and its cost, and a line for each member.
 fn push_place(
     alloc: Global,
     text: &mut String,
@@ -131,8 +130,7 @@ fn push_place(
     push_members(alloc, text, legs)
 }
 
-/// What the guide says of a meeting: `meet #1 #6 at #0 cost 3` and a line for each member, or `meet
-/// #1 #6 no meeting`.
+/// Returns the text of a meeting: `meet #1 #6 at #0 cost 3` and a line for each member, or `meet #1 #6 no meeting`.
 pub(crate) fn meet_text(
     alloc: Global,
     place: Option<Meeting>,

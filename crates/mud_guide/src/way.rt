@@ -1,4 +1,4 @@
-//! Walks, with what they cost.
+//! Walks with their costs.
 
 ghost use Rattle.std.specs.Prelude.{◌≡◌};
 ghost use Rattle.mud_guide.specs.Ways.{cost_of};
@@ -6,7 +6,7 @@ ghost use Rattle.mud_guide.specs.Ways.{cost_of};
 use mud_roads::Step;
 use std::marker::Model;
 
-/// A walk, and what it costs. Contracts see its steps.
+/// A walk and its cost. Contracts see its steps.
 #[derive(Drop)]
 pub(crate) struct Way {
     cost: u32,
@@ -26,7 +26,7 @@ impl Model for Way {
 }
 
 impl Way {
-    /// The walk by these steps.
+    /// Returns the walk with these steps.
     pub(crate) fn new(cost: u32, steps: Vec<Step>) -> Way
         requires { cost ≡ cost_of steps.items }
         ensures { result ≡ steps.items }
@@ -34,14 +34,14 @@ impl Way {
         Way { cost, steps }
     }
 
-    /// The sum of the costs of its exits.
+    /// Returns the sum of the costs of its exits.
     pub(crate) fn cost(&self) -> u32
         ensures { result ≡ cost_of self.now }
     {
         self.cost
     }
 
-    /// Its steps, from the start on.
+    /// Returns its steps, beginning at the start.
     pub(crate) fn steps(&self) -> &[Step]
         ensures { result.now ≡ self.now }
     {

@@ -1,4 +1,4 @@
-//! What the guide is asked, answered by several workers.
+//! Questions to the guide, answered by several workers.
 
 ghost use Rattle.std.specs.Prelude.{◌≢◌, ◌≤◌, All, AllPairs, IfOk, IsTrue, length};
 ghost use Rattle.std.specs.Thread.{IsSync};
@@ -20,8 +20,8 @@ use std::slice;
 use std::sync::Wait;
 use std::thread::{Threads, join};
 
-/// Workers: what starts their threads, how many there are, the caller's thread among them, and the gate that each
-/// passes with each room.
+/// The workers: the handle that starts their threads, their number including the caller's thread, and the gate that
+/// each passes with each room.
 #[derive(Drop)]
 pub struct Workers<'a, R, G> {
     pub rt: &'a R,
@@ -29,8 +29,8 @@ pub struct Workers<'a, R, G> {
     pub gate: &'a G,
 }
 
-/// Answers as [`route_alone`](crate::route_alone), by workers that share the rooms (see [`labels`]). It may wait, and
-/// ends if the gate lets all pass. The only error is out of memory.
+/// Answers like [`route_alone`](crate::route_alone), by workers that share the rooms (see [`labels`]). It may block,
+/// and returns if the gate lets all pass. The only error is out of memory.
 pub fn route<R: Threads + Wait + Sync, G: Gate + Sync>(
     by: &Workers<'_, R, G>,
     alloc: Global,
@@ -48,7 +48,7 @@ pub fn route<R: Threads + Wait + Sync, G: Gate + Sync>(
     route_of(by, alloc, world, version, &traveller, room)
 }
 
-/// Answers as [`route`] for a traveller of this world who is at hand.
+/// Answers like [`route`], for a traveller of this world that the caller has already.
 pub fn route_of<R: Threads + Wait + Sync, G: Gate + Sync>(
     by: &Workers<'_, R, G>,
     alloc: Global,
@@ -67,8 +67,8 @@ pub fn route_of<R: Threads + Wait + Sync, G: Gate + Sync>(
     route_from(alloc, world, version, traveller, &labels, room)
 }
 
-/// Answers as [`meet_alone`](crate::meet_alone), by workers that search for the members apart (see [`labels`]). It may
-/// wait, and ends if the gate lets all pass. The only error is out of memory.
+/// Answers like [`meet_alone`](crate::meet_alone), by workers that search for the members separately (see [`labels`]).
+/// It may block, and returns if the gate lets all pass. The only error is out of memory.
 pub fn meet<R: Threads + Wait + Sync, G: Gate + Sync>(
     by: &Workers<'_, R, G>,
     alloc: Global,
@@ -99,8 +99,8 @@ pub fn meet<R: Threads + Wait + Sync, G: Gate + Sync>(
     meet_from(&crew, alloc, world, version, travellers.as_slice(), &labels)
 }
 
-// The travellers who are these players: the last of them apart, by the last workers, as long as there
-// are two players and two workers. So the caller's thread starts them all.
+// Returns these players as travellers. While there are two players and two workers, the last players are split off for
+// the last workers. So the caller's thread starts all threads.
 fn party_with<R: Threads + Sync>(
     rt: &R,
     alloc: Global,

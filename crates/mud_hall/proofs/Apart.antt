@@ -1,4 +1,4 @@
--- Where the calls of a desk and the entries that bear its number differ.
+-- The differences between the calls of a desk and the entries with its number.
 use Rattle.std.proofs.Common.{◌≡◌, ℕ, ◌+◌, ◌≤◌, ◌<◌, Bool, true, false, List, [], ◌∷◌, ◌++◌, length, drop, get_or}
 use Rattle.std.proofs.Common.{inl, inr, ◌⊎◌, Option, Some, None, refl, sym, ap, ◌∙◌, arith}
 use Rattle.std.proofs.lemmas.Bool.Decides.{nat_tests}
@@ -13,7 +13,7 @@ use Rattle.mud_hall.proofs.Least.{least_same, least_either, least_self, any_at, 
 
 -- ---- one desk
 
--- where the calls from place `next` on and the entries from place i on differ
+-- the first difference between the calls from place `next` on and the entries from place i on
 abbrev pub left : ℕ → ℕ → ℕ → ℕ → List ℕ → List Entry → Option ℕ
 left n v i next calls es = first_apart (drop next calls) (versions_by n (i + v) (drop i es))
 
@@ -21,7 +21,7 @@ rest_at : {X : Type 0} (xs : List X) (i : ℕ) (x : X) → i < length xs → x �
     → drop i xs ≡ x ∷ drop (i + 1) xs
 rest_at xs i x lt at = drop_more xs i x lt ∙ ap (λ y. y ∷ drop (i + 1) xs) (sym at)
 
--- the versions from a place on, where the entry there is of the desk, and where it is of another
+-- the versions from a place on, if the entry there is the desk's, and if it is another's
 own : (n v i : ℕ) (es : List Entry) (e : Entry) → i < length es → e ≡ get_or es i e → e.desk ≡ n
     → versions_by n (i + v) (drop i es) ≡ (i + v) ∷ versions_by n ((i + 1) + v) (drop (i + 1) es)
 own n v i es e lt at is =
@@ -36,7 +36,7 @@ other n v i es e lt at apart =
     let next : (i + v) + 1 ≡ (i + 1) + v = omega arith in
     ap (versions_by n (i + v)) (rest_at es i e lt at) ∙ rw (not, next) refl
 
--- the entry is of another desk
+-- the entry is another desk's
 pub left_skip : (n v i next : ℕ) (calls : List ℕ) (es : List Entry) (e : Entry) → i < length es
     → e ≡ get_or es i e → (e.desk ≡ n → ⊥) → left n v (i + 1) next calls es ≡ left n v i next calls es
 left_skip n v i next calls es e lt at apart = ap (first_apart (drop next calls)) (sym (other n v i es e lt at apart))
@@ -57,7 +57,7 @@ left_here n v i next calls es e lt at is room apart =
     let not : (get_or calls next 0 == (i + v)) ≡ false = grind (arith, nat_tests) in
     rw (drop_more calls next 0 room, own n v i es e lt at is) (rw not refl)
 
--- there is no more call
+-- there are no more calls
 pub left_more : (n v i next : ℕ) (calls : List ℕ) (es : List Entry) (e : Entry) → i < length es
     → e ≡ get_or es i e → e.desk ≡ n → length calls ≤ next → left n v i next calls es ≡ Some (i + v)
 left_more n v i next calls es e lt at is none = rw (drop_all next calls none, own n v i es e lt at is) refl
@@ -90,7 +90,7 @@ differs_more ds d first es a here least is =
     (λ v h. elim (any_cases (P v) ds d h) [ inl x ↦ inl x | inr y ↦ inr (is ∙ y) ])
     (least_either (Differs ds first es) Q a here least (least_self here))
 
--- where no desk differs the calls of each are its entries
+-- if no desk differs, the calls of each are its entries
 pub all_same : (ds : List View) (first : ℕ) (es : List Entry) → IsLeast (Differs ds first es) None
     → All (λ d. d.state.calls ≡ versions_by d.state.number first es) ds
 all_same ds first es none k x lt = same (get_or ds k x) refl

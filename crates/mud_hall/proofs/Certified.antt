@@ -24,7 +24,7 @@ use Rattle.mud_hall.specs.Steps.{AreLoadable}
 use Rattle.mud_hall.specs.Right.{IsAcceptedWith, IsCertified}
 use Rattle.mud_hall.proofs.Worlds.{world-sound}
 
--- the laws below on which this stands
+-- the laws of lower crates that this needs
 pub record Below : Type 0 where
   pub again : IsWrittenAgain
   pub no_returns : HasNoReturns
@@ -32,13 +32,13 @@ pub record Below : Type 0 where
   pub drops_nothing : DropsNothing
   pub optimal : ValidIsOptimal
 
--- what a certificate has to be
+-- the conditions on a certificate
 pub record IsGood (w : State) (v : ℕ) (c : Certificate) : Type 0 where
   pub limits : IsCertificate c
   pub version : c.version ≡ v
   pub valid : IsValid w c
 
--- the first entries stay the first ones
+-- the first entries remain the first ones
 pub first_stay : (f later : List Entry) → IsPrefix f later → take (length f) later ≡ f
 first_stay f later on = ap (λ (x : List Entry). take (length f) x) (sym on.1) ∙ take-append_seam f on.0
 

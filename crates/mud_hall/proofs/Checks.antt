@@ -1,4 +1,5 @@
--- What a look at the desks finds: numbers of two desks, entries of none, and what all of them know.
+-- The results of scanning the desks: numbers that two desks have, entries that belong to none, and the entries that
+-- they know together.
 use Rattle.std.proofs.Common.{◌≡◌, ◌⊎◌, inl, inr, ℕ, zero, suc, ◌+◌, ◌≤◌, ◌<◌, Bool, true, false, List, [], ◌∷◌}
 use Rattle.std.proofs.Common.{◌++◌, length, take, get_or, Option, Some, None, slice_get, refl, sym, ap, ◌∙◌, subst}
 use Rattle.std.proofs.Common.{arith}
@@ -20,9 +21,9 @@ use Rattle.mud_hall.proofs.Least.{any_later, any_last}
 use Rattle.mud_hall.proofs.Lists.{all_weaken}
 use Rattle.mud_hall.proofs.Seats.{prefix_trans}
 
--- ---- two desks of one number
+-- ---- two desks with one number
 
--- a number of two desks is one of two before the last, or of the last and one before it
+-- a number of two desks belongs to two before the last, or to the last and one before it
 abbrev Twice : List View → View → ℕ → Type 0
 Twice ds d m = HaveSameNumber ds m ⊎ (HasNumber ds m × (d.state.number ≡ m))
 
@@ -48,7 +49,7 @@ twice_cases ds d m h =
           inr (subst P whole h.4, subst Q (sym w.1) h.3)
     ]
 
--- one more desk, of a number that one before it has
+-- one more desk, with a number that an earlier one has
 pub twice_more : (ds : List View) (d : View) (a : Option ℕ) → IsLeast (HaveSameNumber ds) a
     → HasNumber ds d.state.number → IsLeast (HaveSameNumber (ds ++ d ∷ [])) (lesser_of a (Some d.state.number))
 twice_more ds d a least has =
@@ -57,7 +58,7 @@ twice_more ds d a least has =
     least_same (Twice ds d) (HaveSameNumber (ds ++ d ∷ [])) (lesser_of a (Some n)) (twice_later ds d) (twice_cases ds d)
     (least_either (HaveSameNumber ds) Q a (Some n) least ((has, refl), λ u q. omega (arith, q.1)))
 
--- one more desk, of a number that none before it has
+-- one more desk, with a number that no earlier one has
 pub twice_same : (ds : List View) (d : View) (a : Option ℕ) → IsLeast (HaveSameNumber ds) a
     → (HasNumber ds d.state.number → ⊥) → IsLeast (HaveSameNumber (ds ++ d ∷ [])) a
 twice_same ds d a least none =
@@ -67,7 +68,7 @@ twice_same ds d a least none =
     least_same (Twice ds d) (HaveSameNumber (ds ++ d ∷ [])) a (twice_later ds d) (twice_cases ds d)
     (subst (IsLeast (Twice ds d)) (lesser_none a) both)
 
--- where no number is that of two desks each two differ
+-- if no number belongs to two desks, all numbers differ
 pub all_apart : (ds : List View) → IsLeast (HaveSameNumber ds) None
     → AreApart ds
 all_apart ds none i j d lt within same =
@@ -77,7 +78,7 @@ all_apart ds none i j d lt within same =
     get_or-take j ds i x lt ∙ get_or_from_slice_get ds i x x (slice_get-get_or ds i d (omega (arith, lt, within))) in
     none x.state.number (j, get_or ds j d, slice_get-get_or ds j d within, sym same, (i, x, less, at, refl))
 
--- ---- entries that bear the number of no desk
+-- ---- entries with the number of no desk
 
 -- the entry at place i is the first one
 pub unnamed_here : (ds : List View) (first i : ℕ) (es : List Entry) (e : Entry)
@@ -109,7 +110,7 @@ unnamed_none ds first es all u (k, x, so, here, none) =
     let same : get_or es k x ≡ x = get_or_from_slice_get es k x x here in
     none (subst (λ (y : Entry). HasNumber ds y.desk) same (all k x (slice_get_within es k x here)))
 
--- some desk has a number, or none
+-- some desk has a number, or none has it
 has_cases : (ds : List View) (n : ℕ) → HasNumber ds n ⊎ (HasNumber ds n → ⊥)
 has_cases [] n = inr (λ h. absurd (omega (arith, h.2)))
 has_cases (d ∷ ds) n = go (d.state.number == n) refl (has_cases ds n)
@@ -136,9 +137,9 @@ all_named ds first es none k d lt = elim (has_cases ds (get_or es k d).desk) [
   | inr apart ↦ absurd (none (first + k) (k, get_or es k d, refl, slice_get-get_or es k d lt, apart))
 ]
 
--- ---- what is gathered
+-- ---- the longest prefix
 
--- one more desk tells what it knows
+-- one more desk adds what it knows
 pub gathered_more : (loaded : List Entry) (ds : List View) (d : View) (h more : List Entry)
     → IsGathered loaded ds h → (more ≡ h) ⊎ (more ≡ d.state.seen) → IsPrefix h more → IsPrefix d.state.seen more
     → IsGathered loaded (ds ++ d ∷ []) more
@@ -159,7 +160,7 @@ gathered_more loaded ds d h more old is on mine =
         (subst (λ (w : List Entry). Any (λ (x : View). w ≡ x.state.seen) ds) (sym same) one))
     whose (inr its) rest = inr (any_last (λ (x : View). more ≡ x.state.seen) ds d its)
 
--- what a look at the desks found is a fault of the settlement of what was gathered
+-- a result of scanning the desks is a fault of the settlement
 pub fault_of : (loaded : List Entry) (desks : List View) (history : List Entry) (f : CloseFault)
     → IsGathered loaded desks history → IsCheckFault desks (length loaded + 1) (entries_made loaded history) f
     → IsCloseFault loaded desks f

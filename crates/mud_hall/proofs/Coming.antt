@@ -1,4 +1,4 @@
--- What a line comes to, by what it is decided to be.
+-- The effect of a line, by its verdict.
 use Rattle.std.proofs.Common.{◌≡◌, ◌⊎◌, inl, inr, ℕ, List, length, ap, refl}
 use Rattle.mud_world.specs.declared.change.Change.{Change}
 use Rattle.mud_rules.specs.declared.verdict.Verdict.{Verdict}
@@ -10,7 +10,7 @@ use Rattle.mud_words.specs.Line.{Line}
 use Rattle.mud_hall.specs.Replies.{Reply, Accepted, Became, Refused, Question, Failed}
 use Rattle.mud_hall.specs.Replies.{verdict_on, Stores, Comes, Replies}
 
--- where memory is refused the desk stays, whatever the line comes to
+-- if an allocation fails, the desk is unchanged for any verdict
 pub comes_memory : (capacity : ℕ) (s : DeskState) (v : Verdict) (new : DeskState) → new ≡ s
     → Comes capacity s v (Failed OutOfMemory) new
 comes_memory capacity s (verdict.Change e) new same = same
@@ -18,7 +18,7 @@ comes_memory capacity s (verdict.Become p) new same = same
 comes_memory capacity s (verdict.Refused f) new same = same
 comes_memory capacity s (verdict.Ask q) new same = same
 
--- the desk stays where memory is refused
+-- the desk is unchanged if an allocation fails
 pub stays_in_memory : (capacity : ℕ) (s : DeskState) (v : Verdict) (new : DeskState)
     → Comes capacity s v (Failed OutOfMemory) new → new ≡ s
 stays_in_memory capacity s (verdict.Change e) new c = c
@@ -26,7 +26,7 @@ stays_in_memory capacity s (verdict.Become p) new c = c
 stays_in_memory capacity s (verdict.Refused f) new c = c
 stays_in_memory capacity s (verdict.Ask q) new c = c
 
--- what comes of a line where memory is not refused
+-- the effect of a line if no allocation fails
 abbrev pub Plain : ℕ → DeskState → Verdict → Reply → DeskState → Type 0
 Plain capacity s (verdict.Change e) reply new = Stores capacity s e reply new
 Plain capacity s (verdict.Become p) reply new =
@@ -62,7 +62,7 @@ plainly capacity s (verdict.Ask q) (Became v text) new c = inr c
 plainly capacity s (verdict.Ask q) (Refused v f text) new c = inr c
 plainly capacity s (verdict.Ask q) (Question v) new c = inr c
 
--- what is accepted is a change
+-- an accepted line is a change
 pub record WasChange (capacity : ℕ) (s : DeskState) (line : Line) (reply : Reply) (new : DeskState) : Type 0 where
   pub change : Change
   pub decides : verdict_on s.seen s.player line ≡ verdict.Change change
@@ -90,7 +90,7 @@ stored_number capacity s e (Became v text) new x = absurd x
 stored_number capacity s e (Refused v f text) new x = absurd x
 stored_number capacity s e (Question v) new x = absurd x
 
--- whatever is replied, the desk keeps its number
+-- for any reply, the desk keeps its number
 pub same_number : (capacity : ℕ) (s : DeskState) (v : Verdict) (reply : Reply) (new : DeskState)
     → Comes capacity s v reply new → new.number ≡ s.number
 same_number capacity s v reply new c = go v (plainly capacity s v reply new c)

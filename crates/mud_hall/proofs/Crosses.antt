@@ -1,4 +1,5 @@
--- Which types of a hall may cross threads. Lemmas, since the search of a check does not find so much at once.
+-- The types of a hall that may cross threads. These are lemmas because a checker's search does not find all of it at
+-- once.
 use denote.RattleType.{RattleType}
 use denote.Param.Send.{IsSend, IsSync, sendable}
 use Rattle.std.proofs.Crossing.{crosses}

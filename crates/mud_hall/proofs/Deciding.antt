@@ -1,4 +1,4 @@
--- What a line comes to in the world of a history.
+-- The verdict of a line in the world of a history.
 use Rattle.std.proofs.Common.{◌≡◌, ℕ, List, Option, Result, subst}
 use Rattle.std.specs.Prelude.{IfOk}
 use Rattle.std.specs.declared.alloc.AllocError.{AllocError}

@@ -1,4 +1,4 @@
--- Texts of lines end with a line's end.
+-- A text of lines ends with a line end.
 use Rattle.std.proofs.Common.{◌≡◌, ℕ, List, [], ◌∷◌, ◌++◌}
 use Rattle.std.proofs.Common.{length, sym, ◌∙◌, ap, append_assoc}
 use Rattle.std.specs.Prelude.{codes}
@@ -7,7 +7,7 @@ use Rattle.mud_chron.specs.Entry.{Entry}
 use Rattle.mud_chron.specs.Text.{line_feed, entries_text, end_line}
 use Rattle.mud_chron.specs.inner.Texts.{written_text}
 
--- more in front changes nothing of the end
+-- a text before it does not change its end
 pub behind : (front : List ℕ) (text : List ℕ) → (before : List ℕ) × (text ≡ before ++ LF ∷ [])
     → (before : List ℕ) × (front ++ text ≡ before ++ LF ∷ [])
 behind front text (before, e) = (

@@ -1,4 +1,4 @@
--- What a guest may ask.
+-- Questions of guests.
 use Rattle.std.proofs.Common.{◌≡◌, ℕ, Option, Some, None, refl}
 use Rattle.mud_words.specs.Line.{Line}
 use Rattle.mud_world.specs.State.{State}
@@ -9,7 +9,7 @@ use Rattle.mud_rules.specs.Table.{decision}
 use Rattle.mud_rules.proofs.Guests.{guest-asks}
 use Rattle.mud_hall.specs.inner.Answers.{CanAsk}
 
--- a question about a journey has a player
+-- only a player asks for a journey
 pub can-ask : (w : State) (player : Option ℕ) (l : Line) (q : Query) → decision w player l ≡ verdict.Ask q
     → CanAsk player q
 can-ask w None l (query.View view) is = tt

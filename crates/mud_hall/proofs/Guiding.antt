@@ -34,7 +34,7 @@ use Rattle.mud_hall.specs.Steps.{At, HallStep, Begins, IsRun, Hall, Ask, Makes}
 some-inj : {A : Type 0} (x y : A) → Some x ≡ Some y → x ≡ y
 some-inj x y e = cc
 
--- what is known of journeys
+-- the known facts about journeys
 pub record Known : Type 0 where
   pub routes : RouteIsLeast
   pub alike : MeetingIsAlike
@@ -47,7 +47,7 @@ good-cert : (w : State) (v : ℕ) (P : Certificate → Type 0)
 good-cert w v P is None p i = absurd p
 good-cert w v P is (Some c) p i = let h = is c p in record { limits = h.0; version = h.1; valid = i }
 
--- the guide's answer tells the journey, and its certificate is as it has to be
+-- the guide's answer states the journey, and its certificate satisfies the conditions
 record IsTold (w : State) (v p : ℕ) (j : Journey) (g : Answer) : Type 0 where
   version : g.version ≡ v
   told : TellsJourney w p j (string_bytes g.text) g.cert

@@ -1,4 +1,4 @@
--- What an answer about a journey tells is so.
+-- The statements of an answer about a journey are true.
 use Rattle.std.proofs.Common.{◌≡◌, ℕ, ◌≤◌, List, [], ◌∷◌, length, Option, None, Some, refl, arith}
 use Rattle.std.specs.Prelude.{string_bytes}
 use Rattle.std.specs.Option.{option_map, IsSomeAnd}
@@ -22,7 +22,7 @@ use Rattle.mud_guide.specs.Answers.{IsCertOf, IsRouteAnswer, IsMeetAnswer}
 use Rattle.mud_guide.specs.Laws.{RouteIsLeast}
 use Rattle.mud_hall.specs.Right.{Certifies, IsBestWay, GoesBest, TellsRoute, TellsMeeting}
 
--- one for each is as many as there are
+-- a sum of ones is the number of elements
 ones : (ss : List Step) → sum_by (λ (s : Step). 1) ss ≡ length ss
 ones [] = refl
 ones (s ∷ ss) = omega (arith, sum_by-cons (λ (x : Step). 1) s ss, ones ss)
@@ -53,7 +53,7 @@ all-go-best routes w to (p ∷ ps) [] z = absurd z
 all-go-best routes w to (p ∷ ps) (j ∷ js) z =
     (goes-best routes w to p j z.0, all-go-best routes w to ps js z.1)
 
--- the certificate of journeys is of those who go so
+-- the certificate of journeys is about their players
 members-for : (w : State) (js : List Leg) (members : List Account) → AllZip (IsAccountOf w) js members
     → AllZip IsMemberFor js members
 members-for w [] [] z = tt

@@ -1,4 +1,4 @@
--- What every step of a hall keeps.
+-- The invariant of a hall is preserved by every step.
 use Rattle.std.proofs.Common.{◌≡◌, ◌≢◌, ℕ, ◌+◌, ◌≤◌, ◌<◌, ◌⊎◌, inl, inr, List, [], ◌∷◌, ◌++◌, length}
 use Rattle.std.proofs.Common.{Option, None, Some, refl, sym, ◌∙◌, ap, subst, arith, append_assoc, append-nil, cond, eqb}
 use Rattle.std.specs.List.{AllByRecursion}
@@ -39,14 +39,14 @@ pub record IsDesk (h : List Entry) (s : ℕ) (d : DeskState) : Type 0 where
 abbrev AreDesks : List Entry → Hall → Type 0
 AreDesks h hall = (s : ℕ) (d : DeskState) → hall.desks s ≡ Some d → IsDesk h s d
 
--- what is true of a hall in every run
+-- the invariant of a hall in every run
 pub record IsKept (capacity : ℕ) (hall : Hall) : Type 0 where
   pub each : AllByRecursion IsEntry hall.history
   pub legal : AreLegal (changes_of hall.history)
   pub few : length hall.history ≤ capacity
   pub desks : (s : ℕ) (d : DeskState) → hall.desks s ≡ Some d → IsDesk hall.history s d
 
--- and the history goes on
+-- and the history is extended
 pub record Keeps (capacity : ℕ) (old new : Hall) : Type 0 where
   pub kept : IsKept capacity new
   pub on : IsPrefix old.history new.history
@@ -95,7 +95,7 @@ last-one (z ∷ zs) (u ∷ us) x y e =
 
 -- ---- one desk
 
--- who is at number t, once this desk is at s
+-- the desk with number t, after this desk was set at s
 at-seat : (desks : ℕ → Option DeskState) (s : ℕ) (is : DeskState) (t : ℕ) (d : DeskState)
     → cond (eqb t s) (Some is) (desks t) ≡ Some d → ((t ≡ s) × (is ≡ d)) ⊎ (desks t ≡ Some d)
 at-seat desks s is t d at = go (cases_eq t s)
@@ -132,7 +132,7 @@ turned old new s was is turns desks number on t d at =
         })
     go (inr there) = goes-on old.history new.history t d (desks t d there) on
 
--- where the history stays
+-- if the history does not change
 stays : (capacity : ℕ) (old new : Hall) → IsKept capacity old → new.history ≡ old.history → AreDesks new.history new
     → Keeps capacity old new
 stays capacity old new kept same desks =
@@ -180,7 +180,7 @@ accepts capacity old new s n was is e kept turns mine number made room grown =
       on = on;
     }
 
--- what is stored is the change that was accepted
+-- the stored change is the one that was accepted
 stored : (capacity : ℕ) (old new : Hall) (s v : ℕ) (text line : List ℕ) (was ready is : DeskState)
     → IsKept capacity old → Turns old s was is new
     → ready.number ≡ was.number → WasChange capacity ready (parse_of line) (Accepted v text) is
@@ -201,7 +201,7 @@ stored capacity old new s v text line was ready is kept turns number c grows =
     (subst (λ (x : List Entry). length x < capacity) whole c.stores.0)
     (grown ∙ ap (λ (x : List Entry). x ++ entry ∷ []) whole)
 
--- where the reply is no change that was accepted, the history stays
+-- if the reply is not an accepted change, the history does not change
 replies : (capacity : ℕ) (old new : Hall) (s : ℕ) (line : List ℕ) (was ready is : DeskState) (reply : Reply)
     → IsKept capacity old
     → Turns old s was is new → ready.number ≡ was.number → Grows (Act line reply) old.history is new.history

@@ -1,4 +1,4 @@
--- What a desk has seen that learned from another one.
+-- The entries seen by a desk that learned from another one.
 use Rattle.std.proofs.Common.{◌≡◌, ◌≤◌, ◌<◌, ◌⊎◌, inl, inr, Bool, true, false, List, [], ◌∷◌, ◌++◌, length}
 use Rattle.std.proofs.Common.{refl, sym, ap, ◌∙◌, arith, length-append, append-nil}
 use Rattle.std.specs.Prelude.{nat_lt, if◌then◌else◌}
@@ -10,7 +10,7 @@ none-left : (more : List Entry) → length more ≤ 0 → more ≡ []
 none-left [] few = refl
 none-left (e ∷ more) few = absurd (omega (arith, few))
 
--- a beginning that is no shorter is the whole
+-- a prefix that is at least as long is the whole
 whole : (f h : List Entry) → IsPrefix f h → length h ≤ length f → h ≡ f
 whole f h on few =
     let rest : on.0 ≡ [] = none-left on.0 (omega (arith, few, ap length on.1, length-append f on.0)) in

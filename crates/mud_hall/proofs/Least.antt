@@ -1,4 +1,4 @@
--- The least number of a kind, and what some element of a list fulfils that has one more.
+-- The least number with a property, and properties of some element of a list with one more.
 use Rattle.std.proofs.Common.{◌≡◌, ◌⊎◌, inl, inr, ℕ, zero, suc, ◌≤◌, ◌<◌, Bool, true, false, List, [], ◌∷◌, ◌++◌}
 use Rattle.std.proofs.Common.{length, Option, Some, None, slice_get, refl, sym, ap, ◌∙◌, subst, arith}
 use Rattle.std.proofs.lemmas.Bool.Decides.{nat_tests}
@@ -6,14 +6,14 @@ use Rattle.std.proofs.lemmas.Option.{none-some, same_Some, slice_get_within, sli
 use Rattle.std.specs.Prelude.{Any, nat_lt, if◌then◌else◌}
 use Rattle.mud_hall.specs.inner.CheckFaults.{lesser_of, IsLeast}
 
--- ---- the least number of a kind
+-- ---- the least number with a property
 
 pub least_same : (P Q : ℕ → Type 0) (a : Option ℕ) → ((u : ℕ) → P u → Q u) → ((u : ℕ) → Q u → P u)
     → IsLeast P a → IsLeast Q a
 least_same P Q None on back none = λ u q. none u (back u q)
 least_same P Q (Some v) on back (is, least) = (on v is, λ u q. least u (back u q))
 
--- the least of one kind or of the other
+-- the least number with one of two properties
 pub least_either : (P Q : ℕ → Type 0) (a b : Option ℕ) → IsLeast P a → IsLeast Q b
     → IsLeast (λ u. P u ⊎ Q u) (lesser_of a b)
 least_either P Q None None p q = λ u h. elim h [ inl x ↦ p u x | inr y ↦ q u y ]
@@ -59,7 +59,7 @@ at_or_last (z ∷ xs) x y (suc i) at = elim (at_or_last xs x y i at) [
   | inr h ↦ inr (omega (arith, h.0), h.1)
 ]
 
--- what some element fulfils, by its place
+-- an element with a property, by its place
 pub any_at : {X : Type 0} (P : X → Type 0) (xs : List X) (i : ℕ) (x : X) → slice_get xs i ≡ Some x → P x → Any P xs
 any_at P xs i x at p = (i, x, slice_get_within xs i x at, get_or_from_slice_get xs i x x at, p)
 

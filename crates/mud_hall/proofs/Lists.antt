@@ -18,7 +18,7 @@ pub all_one : {X : Type 0} (P : X → Type 0) (x : X) → P x → All P (x ∷ [
 all_one P x p zero d lt = p
 all_one P x p (suc k) d lt = absurd (omega arith)
 
--- what holds of the first i and of the next holds of the first i + 1
+-- a property of the first i and of the next holds for the first i + 1
 pub all_snoc : {X : Type 0} (P : X → Type 0) (xs : List X) (i : ℕ) (d x : X) → All P (take i xs) → i < length xs
     → x ≡ get_or xs i d → P x → All P (take (i + 1) xs)
 all_snoc {X} P xs i d x all lt at p =
@@ -41,7 +41,7 @@ versions-snoc n v (x ∷ es) e =
     (versions-snoc n (v + 1) es e ∙ ap (λ k. rest ++ (if e.desk == n then k ∷ [] else [])) same)
     ∙ sym (append_assoc head rest (if e.desk == n then (v + suc (length es)) ∷ [] else []))
 
--- what is at a place after the first n
+-- the element at a place after the first n
 pub slice_get-drop : {X : Type 0} (xs : List X) (n i : ℕ) (x : X) → slice_get xs (n + i) ≡ Some x
     → slice_get (drop n xs) i ≡ Some x
 slice_get-drop xs n i x at =

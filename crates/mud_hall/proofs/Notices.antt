@@ -1,4 +1,4 @@
--- The notices of entries that follow one another.
+-- The notices of consecutive entries.
 use Rattle.std.proofs.Common.{◌≡◌, ℕ, zero, suc, ◌+◌, ◌≤◌, ◌<◌, Bool, true, false}
 use Rattle.std.proofs.Common.{List, [], ◌∷◌, ◌++◌, length, take, drop, Option, Some, None}
 use Rattle.std.proofs.Common.{slice_get, refl, sym, ap, ◌∙◌, subst, arith, add-one, append_assoc}
@@ -20,7 +20,7 @@ notices-append p h (e ∷ es) fs =
     ∙ (sym (append_assoc (notice p h e) (notices p (h ++ e ∷ []) es) (notices p ((h ++ e ∷ []) ++ es) fs))
     ∙ ap (λ w. (notice p h e ++ notices p (h ++ e ∷ []) es) ++ notices p w fs) (append_assoc h (e ∷ []) es))
 
--- what is left from a place on begins with the entry there
+-- the rest from a place on begins with the entry there
 pub drop_at : (es : List Entry) (i : ℕ) (e : Entry) → slice_get es i ≡ Some e → drop i es ≡ e ∷ drop (suc i) es
 drop_at [] i e at = absurd (cc)
 drop_at (x ∷ es) zero e at = cc
@@ -38,7 +38,7 @@ pub notices_at : (p : Option ℕ) (es : List Entry) (i : ℕ) (e : Entry) → sl
 notices_at p es i e at = rw (add-one i) (ap (notices p (take i es)) (drop_at es i e at)
     ∙ ap (λ w. notice p (take i es) e ++ notices p w (drop (suc i) es)) (sym (take_at es i e at)))
 
--- a step from a place within the list goes one further
+-- a step from a place inside the list goes to the next place
 pub stepped : (more : Bool) (at len new : ℕ) → MatchBool more ((at < len) × (new ≡ at + 1)) ((at ≡ len) × (new ≡ at))
     → at < len → new ≡ at + 1
 stepped true at len new m lt = m.1
@@ -49,7 +49,7 @@ pub state_eq : (s t : DeskState) → s.number ≡ t.number → s.player ≡ t.pl
     → s.told ≡ t.told → s ≡ t
 state_eq s t n p l c o = λ i. record { number = n i; player = p i; seen = l i; calls = c i; told = o i }
 
--- what was taken in twice was taken in at once
+-- seeing entries twice equals seeing all of them at once
 pub takes_more : (one two three : DeskState) → TakesIn one two → TakesIn two three → TakesIn one three
 takes_more one two three first second =
     let es : List Entry = first.entries in
@@ -63,7 +63,7 @@ takes_more one two three first second =
       is = second.is ∙ ap (λ (s : DeskState). took_in s fs) first.is ∙ twice;
     }
 
--- an entry that is taken in with its notice leaves what the desk is told
+-- applying an entry and storing its notice does not change the desk's notices
 pub told_same : (stored marked : List (List ℕ)) (p : Option ℕ) (es : List Entry) (i new : ℕ) (e : Entry)
     → slice_get es i ≡ Some e → new ≡ i + 1 → marked ≡ notice p (take i es) e
     → (stored ++ marked) ++ notices p (take new es) (drop new es) ≡ stored ++ notices p (take i es) (drop i es)
@@ -76,7 +76,7 @@ drop-append_within zero es fs le = refl
 drop-append_within (suc i) [] fs le = absurd (omega arith)
 drop-append_within (suc i) (e ∷ es) fs le = drop-append_within i es fs (omega arith)
 
--- entries that come to be known lengthen what the desk is told by their notices
+-- entries that become known extend the desk's notices by theirs
 pub told_more : (stored : List (List ℕ)) (p : Option ℕ) (es fs : List Entry) (i : ℕ) → i ≤ length es
     → stored ++ notices p (take i (es ++ fs)) (drop i (es ++ fs))
     ≡ (stored ++ notices p (take i es) (drop i es)) ++ notices p es fs
@@ -86,7 +86,7 @@ told_more stored p es fs i le =
     ∙ ap (λ w. notices p (take i es) (drop i es) ++ notices p w fs) (take-append-drop i es))
     ∙ sym (append_assoc stored (notices p (take i es) (drop i es)) (notices p es fs)))
 
--- a desk whose replica comes to know more takes the new entries in
+-- a desk whose replica comes to know more sees the new entries
 pub grows : (was new : Standing) (s : DeskState) (number : ℕ) (p : Option ℕ) (calls : List ℕ) (stored : List (List ℕ))
     → IsPrefix was.list new.list → new.at ≡ was.at → was.at ≤ length was.list → state_of number p was calls stored ≡ s
     → TakesIn s (state_of number p new calls stored)
@@ -101,12 +101,12 @@ grows was new s number p calls stored more at within is =
           (took_in (state_of number p was calls stored) more.0) refl refl (sym more.1) refl told);
     }
 
--- a guest is told nothing
+-- a guest has no notices
 pub notices-none : (h es : List Entry) → notices None h es ≡ []
 notices-none h [] = refl
 notices-none h (e ∷ es) = notices-none (h ++ e ∷ []) es
 
--- what is marked is the notice of the entry
+-- the stored line is the notice of the entry
 pub marked : (peeked was : Standing) (p : Option ℕ) (e : Entry) (n : ℕ) (w : State) (line : List (List ℕ))
     → peeked ≡ was → was.at < length was.list → n ≡ peeked.at → w ≡ world_after (take peeked.at peeked.list)
     → line ≡ notice_in p (n + 1) w e → line ≡ notice p (take was.at was.list) e

@@ -1,5 +1,5 @@
--- A run: the wizard sits down at a desk and asks for a room. At another desk a new player comes, of whom the wizard
--- hears; then he asks where the two can meet.
+-- A run: at one desk the wizard connects and asks for a room. At another desk a new player connects, which the wizard
+-- hears. Then the wizard asks where the two can meet.
 use Rattle.std.proofs.Common.{◌≡◌, ℕ, ◌+◌, ◌≤◌, ◌<◌, zero, suc, ◌⊎◌, inl, inr, List, [], ◌∷◌, codes, Option, None, Some}
 use Rattle.std.proofs.Common.{Global, refl, sym, ◌∙◌, ap, subst, arith}
 use Rattle.std.specs.Prelude.{◌≢◌, IsTrue, All, AllPairs, Contains}
@@ -51,7 +51,7 @@ use Rattle.mud_hall.specs.Steps.{See, Act, Ask, Told, Hall, hall_begun, seats, H
 
 -- ---- a player in a world without roads
 
--- he stands in #0, and nothing leads anywhere
+-- the player is in #0, and no exit leads anywhere
 record IsStill (w : State) (p : ℕ) : Type 0 where
   player : IsTrue (is_player w p)
   place : place_of w p ≡ Some 0
@@ -74,7 +74,7 @@ nowhere roads from to [] none walk = (walk, refl)
 nowhere roads from to (s ∷ ss) none walk =
     absurd (contains-nil s (subst (λ (l : List Step). Contains l s) (none from) walk.0))
 
--- of one element nothing is asked, of two what is asked of each
+-- a relation of pairs says nothing about one element, and relates two elements once
 single : {X : Type 0} (R : X → X → Type 0) (x : X) → AllPairs R (x ∷ [])
 single R x i j d lt within = absurd (omega (arith, lt, within))
 
@@ -145,7 +145,7 @@ is-limited p small = record {
   exits = All-nil IsNumber;
 }
 
--- ---- the first answer: the way to the room where he is
+-- ---- the first answer: the way to the player's own room
 
 abbrev route-cert : Certificate
 route-cert = record { version = 0; form = Two; members = account 1 ∷ []; conclusion = says.Route 0 (Some 0) }
@@ -208,7 +208,7 @@ route-is heap = record {
   valid = route-valid;
 }
 
--- ---- the second answer: where two who stand in one room meet
+-- ---- the second answer: the meeting of two players who are in one room
 
 abbrev ann : Entry
 ann = record { desk = 2; change = record { actor = 2; deed = Player (codes "Ann") } }
@@ -302,7 +302,7 @@ meet-is heap =
       valid = meet-valid;
     }
 
--- ---- what the lines come to
+-- ---- the verdicts of the lines
 
 wizard-comes : verdict_on [] None (parse_of (codes "connect wizard")) ≡ verdict.Become 1
 unfolding digits words phrase_at preposition_of parse_of verb_named decision name_in names_in
@@ -356,7 +356,7 @@ hall7 = seats hall6 (ann ∷ []) 1 (with_told hearing [])
 abbrev hall8 : Hall
 hall8 = seats hall7 (ann ∷ []) 1 (with_told hearing [])
 
--- ---- what is called
+-- ---- the calls
 
 sits : Acts 16 (new_desk 1 []) (parse_of (codes "connect wizard")) (Became 0 (codes "welcome #1")) wizard
 unfolding digits

@@ -1,4 +1,4 @@
--- Who sits at a desk stays a player of the world, whatever follows.
+-- The player of a desk remains a player of the world.
 use Rattle.std.proofs.Common.{◌≡◌, ◌≤◌, ℕ, List, [], ◌∷◌, ◌++◌, length, take, Option, None, Some}
 use Rattle.std.proofs.Common.{refl, ap, sym, subst, ◌∙◌, append_assoc}
 use Rattle.std.specs.Prelude.{IfSome, IsTrue}
@@ -42,7 +42,7 @@ pub after-append : (h es : List Entry) → world_after (h ++ es) ≡ world_from 
 after-append h es = ap world_of (map-append (λ (e : Entry). e.change) h es)
     ∙ from-append opening_state (changes_of h) (changes_of es)
 
--- who is a player after a history is one after each that goes on from it
+-- a player after a history is one after each extension of it
 pub seated-on : (h g : List Entry) (player : Option ℕ) → IsPrefix h g → IsSeated (world_after h) player
     → IsSeated (world_after g) player
 seated-on h g None more is = tt
@@ -55,21 +55,21 @@ seated-on h g (Some p) more is =
 pub prefix_trans : {X : Type 0} (xs ys zs : List X) → IsPrefix xs ys → IsPrefix ys zs → IsPrefix xs zs
 prefix_trans xs ys zs a b = (a.0 ++ b.0, sym (append_assoc xs a.0 b.0) ∙ (ap (λ w. w ++ b.0) a.1 ∙ b.1))
 
--- the world of the first entries stays where more come to be known
+-- the world of the first entries does not change when more become known
 pub at-stays : (was new : Standing) → IsPrefix was.list new.list → new.at ≡ was.at → was.at ≤ length was.list
     → world_at new.list new.at ≡ world_at was.list was.at
 at-stays was new more at within =
     ap (λ n. world_at new.list n) at
     ∙ ap world_after (ap (λ l. take was.at l) (sym more.1) ∙ take-append-le was.at was.list more.0 within)
 
--- and so does what is known of a traveller in it
+-- and neither does the traveller in it
 pub known-on : (t : Option Knowledge) (was new : Standing) → IfSome t (IsTraveller (world_at was.list was.at))
     → IsPrefix was.list new.list → new.at ≡ was.at → was.at ≤ length was.list
     → IfSome t (IsTraveller (world_at new.list new.at))
 known-on t was new known more at within =
     subst (λ (w : State). IfSome t (IsTraveller w)) (sym (at-stays was new more at within)) known
 
--- a desk whose replica comes to know more is one of its hall still
+-- a desk whose replica comes to know more still belongs to its hall
 pub held-on : (cells : List ℕ) (loaded : List Entry) (number : ℕ) (player : Option ℕ) (t : Option Knowledge)
     (was new : Standing) → IsHeld cells loaded number player t was → IsPrefix was.list new.list
     → (new.row ≡ was.row) × (new.at ≡ was.at) → was.at ≤ length was.list → IsHeld cells loaded number player t new

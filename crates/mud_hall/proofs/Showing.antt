@@ -1,4 +1,4 @@
--- The guide's answers are answers to the questions.
+-- The guide's answers answer the questions.
 use Rattle.std.proofs.Common.{◌≡◌, ℕ, length, Option, Some, refl, sym, subst}
 use Rattle.mud_world.specs.State.{State}
 use Rattle.mud_rules.specs.declared.verdict.Journey.{Journey}

@@ -1,4 +1,4 @@
--- What a line that acts leaves.
+-- The effect of a line that acts.
 use Rattle.std.proofs.Common.{◌≡◌, ◌≤◌, ℕ, Bool, true, false, List, [], ◌∷◌, ◌++◌, length, take}
 use Rattle.std.proofs.Common.{Option, Some, None, refl, sym, ap, ◌∙◌, subst, append_assoc}
 use Rattle.std.specs.Prelude.{IsTrue, if◌then◌else◌}
@@ -26,13 +26,13 @@ use Rattle.mud_hall.specs.Desk.{IsHeld}
 use Rattle.mud_hall.proofs.Seats.{known-on}
 use Rattle.mud_hall.proofs.Worlds.{world-sound}
 
--- a replica that has taken all in stands in the world of all
+-- a replica that has applied all entries has the world of all
 pub all_in : (list : List Entry) (at : ℕ) → at ≡ length list → world_at list at ≡ world_after list
 all_in list at is = ap (λ n. world_after (take n list)) is ∙ ap world_after (take-length list)
 
--- ---- who sits there then
+-- ---- the player of the desk afterwards
 
--- the actor of a change sits there after it
+-- the actor of a change is the desk's player after it
 pub actor-seated : (w : State) (player : Option ℕ) (e : Change) → IsActor w player e
     → Some e.actor ≡ (if is_arrival e.deed then Some e.actor else player)
 actor-seated w player e is = go (is_arrival e.deed) refl
@@ -79,7 +79,7 @@ actor-plays w h player e at legal is seated = go e.deed legal is.old is.new
     go (Say text) l old new = here (Say text) l old refl
     go (Emote text) l old new = here (Emote text) l old refl
 
--- the desk is one of its hall after its change
+-- the desk belongs to its hall after its change
 pub held-stored : (cells : List ℕ) (loaded : List Entry) (number : ℕ) (player : Option ℕ) (t : Option Knowledge)
     (was new : Standing) (e : Change) → IsHeld cells loaded number player t was
     → new.list ≡ was.list ++ record { desk = number; change = e } ∷ []

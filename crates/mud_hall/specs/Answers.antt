@@ -1,4 +1,4 @@
--- What a line that asks is answered.
+-- The answer to a line that asks.
 use Rattle.std.specs.Prelude.{◌≡◌, ℕ, List, ◌++◌, length, codes, string_bytes, Option, Some, None}
 use Rattle.std.specs.Option.{IsSomeAnd}
 use Rattle.mud_words.specs.Line.{Line}
@@ -23,13 +23,13 @@ use Rattle.mud_hall.specs.Desk.{DeskState}
 use Rattle.mud_hall.specs.Replies.{verdict_on}
 use Rattle.mud_chron.specs.declared.format.Format.TheVariants.{Two}
 
--- an answer: the version that it speaks of, its text, and what certifies it
+-- an answer: the version that it is about, its text, and its certificate
 pub record Answered : Type 0 where
   pub version : ℕ
   pub text : List ℕ
   pub cert : Option Certificate
 
--- what a call returned, with its text as bytes
+-- the result of a call, with its text as bytes
 abbrev pub answer_shown : Answer → Answered
 answer_shown a = record { version = a.version; text = string_bytes a.text; cert = a.cert }
 
@@ -52,13 +52,13 @@ IsShown h player (query.Proof journey) a =
     (g : Answer) × IsGuided (world_after h) (length h) player journey g × IsProof g.cert a
 IsShown h player query.History a = (a.text ++ codes "\n" ≡ codes "history\n" ++ history_text Two h) × (a.cert ≡ None)
 
--- the answer to a line by what it is decided to be: what asks nothing is not understood
+-- the answer to a line by its verdict; a line that does not ask is not understood
 abbrev pub Shows : List Entry → Option ℕ → Verdict → Answered → Type 0
 Shows h player (verdict.Ask q) a = IsShown h player q a
 Shows h player (verdict.Refused f) a = (a.text ≡ refusal_text f) × (a.cert ≡ None)
 Shows h player other a = (a.text ≡ refusal_text NotUnderstood) × (a.cert ≡ None)
 
--- the desk answers the line by exactly what it has seen
+-- the desk answers the line by exactly the entries that it has seen
 pub record Answers (s : DeskState) (line : Line) (a : Answered) : Type 0 where
   pub version : a.version ≡ length s.seen
   pub shows : Shows s.seen s.player (verdict_on s.seen s.player line) a

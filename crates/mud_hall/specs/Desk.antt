@@ -1,4 +1,4 @@
--- A desk of a hall, and what it takes in.
+-- The state of a desk, and how it changes.
 use Rattle.std.specs.Prelude.{◌≡◌, ◌≤◌, ℕ, ◌+◌, nat_lt, if◌then◌else◌, IsTrue, Option, Some, None, IfSome}
 use Rattle.std.specs.Prelude.{List, [], ◌∷◌, ◌++◌, length, take, drop}
 use mathlib.Core.List.{IsPrefix}
@@ -12,7 +12,7 @@ use Rattle.mud_chron.specs.Replay.{world_at}
 use Rattle.mud_row.specs.Known.{Known, Standing}
 use Rattle.mud_hall.specs.Notices.{world_after, notices}
 
--- a desk: its number, its player or none, the entries that it has seen, the versions of its calls, and what it was told
+-- a desk: its number, its player or none, the entries that it has seen, the versions of its calls, and its notices
 pub record DeskState : Type 0 where
   pub number : ℕ
   pub player : Option ℕ
@@ -20,7 +20,7 @@ pub record DeskState : Type 0 where
   pub calls : List ℕ
   pub told : List (List ℕ)
 
--- a guest's desk of this number, which has seen these entries
+-- a guest's desk with this number, which has seen these entries
 abbrev pub new_desk : ℕ → List Entry → DeskState
 new_desk number seen = record { number = number; player = None; seen = seen; calls = []; told = [] }
 
@@ -31,7 +31,7 @@ as_guest s = record s { player = None; told = [] }
 abbrev pub as_player : DeskState → ℕ → DeskState
 as_player s p = record s { player = Some p }
 
--- the desk after its own change, of which it hears nothing: a new player sits down where he came
+-- the desk after its own change, which it gets no notice of: a new player is seated where the player appeared
 abbrev pub as_accepted : DeskState → Change → DeskState
 as_accepted s e = record s {
   player = if is_arrival e.deed then Some e.actor else s.player;
@@ -39,44 +39,44 @@ as_accepted s e = record s {
   calls = s.calls ++ (length s.seen + 1) ∷ [];
 }
 
--- the desk once it was given these told lines
+-- the desk with these further notices
 abbrev pub with_told : DeskState → List (List ℕ) → DeskState
 with_told s told = record s { told = told }
 
--- some entries were taken in, of which it hears, and nothing else changed
+-- the desk has seen more entries and got their notices, and nothing else changed
 pub record TakesIn (old new : DeskState) : Type 0 where
   pub entries : List Entry
   pub is : new ≡ record old { seen = old.seen ++ entries; told = old.told ++ notices old.player old.seen entries }
 
--- it took in what another desk has seen, where that is more
+-- it has seen what another desk has seen, if that is more
 pub record Learns (old other new : DeskState) : Type 0 where
   pub takes_in : TakesIn old new
   pub longer : new.seen ≡ (if nat_lt (length old.seen) (length other.seen) then other.seen else old.seen)
 
--- it handed out these lines that it was told, in order, and the others are left
+-- it handed out these notices, in order, and the others remain
 pub record HandsOut (old : DeskState) (lines : List (List ℕ)) (new : DeskState) : Type 0 where
   pub told : old.told ≡ lines ++ new.told
   pub is : new ≡ with_told old new.told
 
--- a new guest's desk, which has seen at least what was loaded
+-- a new guest's desk, which has seen at least the loaded entries
 pub record IsNew (loaded : List Entry) (new : DeskState) : Type 0 where
   pub from : 1 ≤ new.number
   pub to : new.number ≤ MOST_DESKS
   pub begun : IsPrefix loaded new.seen
   pub is : new ≡ new_desk new.number new.seen
 
--- ---- what a contract sees of a desk
+-- ---- the model of a desk
 
--- its state, and how many of the entries that it has seen its world took in
+-- its state, and the number of seen entries that its world has applied
 pub record View : Type 0 where
   pub state : DeskState
   pub at : ℕ
 
--- what it is not told yet: the notices of the entries that its world has not taken in
+-- the pending notices: those of the entries that its world has not applied
 abbrev pub pending : View → List (List ℕ)
 pending v = notices v.state.player (take v.at v.state.seen) (drop v.at v.state.seen)
 
--- what is true of every desk of this hall. A reader need not look into this: contracts only hand it on
+-- the invariant of every desk of this hall. A reader need not look into this: contracts only pass it on
 pub record IsHeld (cells : List ℕ) (loaded : List Entry) (number : ℕ) (player : Option ℕ) (t : Option Knowledge)
     (r : Standing) : Type 0 where
   pub row : r.row ≡ cells
@@ -86,7 +86,7 @@ pub record IsHeld (cells : List ℕ) (loaded : List Entry) (number : ℕ) (playe
   pub seated : IfSome player (λ p. IsTrue (is_player (world_after r.list) p))
   pub known : IfSome t (IsTraveller (world_at r.list r.at))
 
--- what is true of what lies under its lock. A reader need not look into this: contracts only hand it on
+-- the invariant of the state under the hall's lock. A reader need not look into this: contracts only pass it on
 pub record IsKept (cells : List ℕ) (loaded : List Entry) (given : ℕ) (start : Known) : Type 0 where
   pub few : given ≤ MOST_DESKS
   pub row : start.row ≡ cells

@@ -1,4 +1,4 @@
--- Laws of the definitions: what they say together.
+-- Laws of the definitions.
 use Rattle.std.specs.Prelude.{◌≡◌, ℕ, List, length, take, Option, Some, IsTrue, ◌++◌, codes, IsSomeAnd}
 use mathlib.Core.List.{IsPrefix}
 use Rattle.mud_world.specs.State.{State, is_player, place_of}
@@ -16,7 +16,7 @@ use Rattle.mud_hall.specs.Steps.{Hall, AreLoadable, Begins, HallStep, IsRun}
 use Rattle.mud_hall.specs.Right.{TellsJourney, IsCertified}
 use Rattle.mud_cert.specs.Text.{cert_text}
 
--- an answer about a journey after these entries: its version, the journey in their world, and its certificate are right
+-- an answer about a journey after these entries: its version, its text in their world, and its certificate are right
 abbrev pub IsRight : List Entry → Option ℕ → Verdict → Answered → Type 0
 IsRight h (Some p) (verdict.Ask (query.Journey journey)) a =
     (a.version ≡ length h) × TellsJourney (world_after h) p journey a.text a.cert × IsCertified h a.cert
@@ -25,7 +25,7 @@ IsRight h (Some p) (verdict.Ask (query.Proof journey)) a =
     × IsSomeAnd a.cert (λ c. a.text ++ codes "\n" ≡ codes "proof\n" ++ cert_text c) × IsCertified h a.cert
 IsRight h player other a = Unit {0}
 
--- In every run the history is one that a hall can begin with, and every later history of the run begins with it.
+-- In every run a hall can begin with the history, and the history is a prefix of every later history of the run.
 abbrev pub HistoryGoesOn : Type 0
 HistoryGoesOn =
     (capacity : ℕ) (loaded : List Entry) (begin : Hall) → Begins capacity loaded begin
@@ -33,8 +33,8 @@ HistoryGoesOn =
     → (more : List HallStep) (later : Hall) → IsRun capacity loaded hall more later
     → AreLoadable capacity later.history × IsPrefix hall.history later.history
 
--- from the world after the first entries of a history the changes by the exits of a player's walk are each legal, and
--- end where the walk leads
+-- from the world after the first entries of a history, the changes by the exits of a player's walk are all legal, and
+-- the player ends where the walk leads
 abbrev pub WalksGo : Type 0
 WalksGo =
     (h : List Entry) (v p from to : ℕ) (ss : List Step) → let w : State = world_after (take v h) in

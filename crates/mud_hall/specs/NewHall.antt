@@ -1,16 +1,16 @@
--- What a hall begins with.
+-- The initial state of a hall.
 use Rattle.std.specs.Prelude.{ℕ, ◌<◌, ◌≤◌, List, length}
 use Rattle.mud_chron.specs.Entry.{Entry}
 use Rattle.mud_chron.specs.Replay.{changes_of, AreLegal, IsFirstIllegal}
 use Rattle.mud_hall.specs.declared.fault.LoadFault.{LoadFault}
 use Rattle.mud_hall.specs.declared.fault.LoadFault.TheVariants.{OutOfMemory, BadChange, OverCapacity, NotStored}
 
--- the names of the cells of the history, and the entries that are there at first
+-- the names of the cells of the history, and the initial entries
 pub record Begun : Type 0 where
   pub cells : List ℕ
   pub loaded : List Entry
 
--- why a hall whose history can have `capacity` entries does not go on from these
+-- the reason why a hall with this capacity does not continue these entries
 abbrev pub IsLoadFault : ℕ → List Entry → LoadFault → Type 0
 IsLoadFault capacity entries OutOfMemory = Unit {0}
 IsLoadFault capacity entries (BadChange n) = IsFirstIllegal (changes_of entries) n

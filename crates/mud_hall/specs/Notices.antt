@@ -1,4 +1,4 @@
--- What a desk is told of the entries that others made.
+-- The notices of entries that others made.
 use Rattle.std.specs.Prelude.{ℕ, ◌+◌, List, [], ◌∷◌, ◌++◌, length, codes, decimal, Option}
 use Rattle.mud_world.specs.State.{State}
 use Rattle.mud_world.specs.History.{world_of}
@@ -11,17 +11,17 @@ use Rattle.std.specs.Option.{option_map, option_and_then, option_to_list}
 abbrev pub world_after : List Entry → State
 world_after h = world_of (changes_of h)
 
--- a notice names the change that was heard
+-- a notice names the version of the change
 abbrev pub notice_text : ℕ → List ℕ → List ℕ
 notice_text n line = codes "(" ++ decimal n ++ codes ") " ++ line
 
--- the notice for a player of the entry that comes after a history, if he hears it
+-- the notice of the entry after a history for a player, if the player hears it
 abbrev pub notice : Option ℕ → List Entry → Entry → List (List ℕ)
 notice player h e =
     option_to_list (option_map (notice_text (length h + 1))
     (option_and_then (heard_line (world_after h) e.change) player))
 
--- the notices of entries that come after a history, in order
+-- the notices of the entries after a history, in order
 abbrev pub notices : Option ℕ → List Entry → List Entry → List (List ℕ)
 notices player h [] = []
 notices player h (e ∷ entries) = notice player h e ++ notices player (h ++ e ∷ []) entries

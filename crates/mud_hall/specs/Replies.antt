@@ -1,4 +1,4 @@
--- What a line that acts is replied, and what it does to its desk.
+-- The reply to a line that acts, and its effect on the desk.
 use Rattle.std.specs.Prelude.{◌≡◌, ℕ, ◌+◌, ◌<◌, List, length, Option, Result, Ok, Err, string_bytes}
 use Rattle.mud_words.specs.Line.{Line}
 use Rattle.mud_world.specs.declared.change.Change.{Change}
@@ -15,7 +15,7 @@ use Rattle.mud_hall.specs.declared.fault.Fault.TheVariants.{OutOfMemory, History
 use Rattle.mud_hall.specs.Notices.{world_after}
 use Rattle.mud_hall.specs.Desk.{DeskState, TakesIn, as_player, as_accepted}
 
--- the reply to a line that acts, which names the version that it speaks of; or why the line was not acted on
+-- the reply to a line that acts, with the version that it is about, or the reason why the line was not acted on
 pub data Reply : Type 0 where
   Accepted : (version : ℕ) → (text : List ℕ) → Reply
   Became : (version : ℕ) → (text : List ℕ) → Reply
@@ -23,7 +23,7 @@ pub data Reply : Type 0 where
   Question : (version : ℕ) → Reply
   Failed : (fault : Fault) → Reply
 
--- what a call returned, with texts as their bytes
+-- the result of a call, with texts as bytes
 abbrev pub reply_shown : Result Returned Fault → Reply
 reply_shown (Ok (returned.Accepted v text)) = Accepted v (string_bytes text)
 reply_shown (Ok (returned.Became v text)) = Became v (string_bytes text)
@@ -31,11 +31,11 @@ reply_shown (Ok (returned.Refused v f text)) = Refused v f (string_bytes text)
 reply_shown (Ok (returned.Question v)) = Question v
 reply_shown (Err fault) = Failed fault
 
--- what a line is decided to be for a player, after a history
+-- the verdict of a line of a player, after a history
 abbrev pub verdict_on : List Entry → Option ℕ → Line → Verdict
 verdict_on h player line = decision (world_after h) player line
 
--- a change is the next entry of a history that can have `capacity` entries, or is not stored
+-- a change is the next entry of a history with this capacity, or is not stored
 abbrev pub Stores : ℕ → DeskState → Change → Reply → DeskState → Type 0
 Stores capacity s e (Accepted v text) new =
     (length s.seen < capacity) × (v ≡ length s.seen + 1) × (text ≡ reply_text (world_after s.seen) e)
@@ -45,7 +45,7 @@ Stores capacity s e (Failed Unpublished) new = (length s.seen < capacity) × (ne
 Stores capacity s e (Failed OutOfMemory) new = new ≡ s
 Stores capacity s e other new = ⊥
 
--- the reply by what a line is decided to be, and the desk then; where memory is refused it stays as it was
+-- the reply by the verdict of a line, and the desk afterwards; if an allocation fails, the desk is unchanged
 abbrev pub Comes : ℕ → DeskState → Verdict → Reply → DeskState → Type 0
 Comes capacity s (verdict.Change e) reply new = Stores capacity s e reply new
 Comes capacity s other (Failed OutOfMemory) new = new ≡ s
@@ -54,11 +54,11 @@ Comes capacity s (verdict.Become p) reply new =
 Comes capacity s (verdict.Refused f) reply new = (reply ≡ Refused (length s.seen) f (refusal_text f)) × (new ≡ s)
 Comes capacity s (verdict.Ask q) reply new = (reply ≡ Question (length s.seen)) × (new ≡ s)
 
--- a desk replies to the line by all that it has seen
+-- a desk replies to the line by all entries that it has seen
 abbrev pub Replies : ℕ → DeskState → Line → Reply → DeskState → Type 0
 Replies capacity s line reply new = Comes capacity s (verdict_on s.seen s.player line) reply new
 
--- the desk takes entries in, and then replies to the line
+-- the desk sees entries, and then replies to the line
 pub record Acts (capacity : ℕ) (old : DeskState) (line : Line) (reply : Reply) (new : DeskState) : Type 0 where
   pub ready : DeskState
   pub takes_in : TakesIn old ready

@@ -1,4 +1,4 @@
--- What is true of an answer about a journey, in terms of walks, costs and rooms.
+-- Correct answers about journeys, in terms of walks, costs and rooms.
 use Rattle.std.specs.Prelude.{◌≡◌, ℕ, ◌≤◌, List, [], ◌∷◌, length, Option, Some, None}
 use Rattle.std.specs.Option.{IsSomeAnd, option_map}
 use Rattle.std.specs.List.{AllZip}
@@ -34,31 +34,32 @@ pub record IsBestWalk (w : State) (p from to : ℕ) (ss : List Step) : Type 0 wh
   pub cheapest : (ts : List Step) → Walk (roads_of w p) from ts to → cost_of ss ≤ cost_of ts
   pub shortest : (ts : List Step) → Walk (roads_of w p) from ts to → cost_of ss ≡ cost_of ts → length ss ≤ length ts
 
--- a best walk, or none where no walk is open to p, or where there is no room to go to
+-- a best walk, or None if no walk is open to p or there is no room to go to
 abbrev pub IsBestWay : State → ℕ → ℕ → Option ℕ → Option (List Step) → Type 0
 IsBestWay w p from (Some to) (Some ss) = IsBestWalk w p from to ss
 IsBestWay w p from (Some to) None = NoWalk (roads_of w p) from to
 IsBestWay w p from None way = way ≡ None
 
--- p goes from where he is by a best way to the room
+-- p goes from its place to the room by a best way
 pub record GoesBest (w : State) (to : Option ℕ) (p : ℕ) (j : Leg) : Type 0 where
   pub who : j.player ≡ p
   pub place : place_of w p ≡ Some j.from
   pub way : IsBestWay w p j.from to j.way
 
--- the certificate is of those who go so, and concludes this
+-- the certificate is about the players of these legs, and has this conclusion
 pub record Certifies (legs : List Leg) (says : Conclusion) (c : Certificate) : Type 0 where
   pub members : AllZip IsMemberFor legs c.members
   pub conclusion : c.conclusion ≡ says
 
--- the text tells a best way of p to the room, and the certificate is of that way
+-- the text states a best way of p to the room, and the certificate is about that way
 pub record TellsRoute (w : State) (p to : ℕ) (text : List ℕ) (cert : Option Certificate) : Type 0 where
   pub leg : Leg
   pub goes : GoesBest w (Some to) p leg
   pub text_is : text ≡ route_text to leg
   pub certified : IsSomeAnd cert (Certifies (leg ∷ []) (Route to (option_map cost_of leg.way)))
 
--- the text tells the best meeting room by costs, or that there is none, and each best way; the certificate is of those
+-- the text states the best meeting room by costs, or that there is none, and each best way; the certificate is about
+-- those
 pub record TellsMeeting (w : State) (party : List ℕ) (text : List ℕ) (cert : Option Certificate) : Type 0 where
   pub place : Option Meeting
   pub legs : List Leg
@@ -67,7 +68,7 @@ pub record TellsMeeting (w : State) (party : List ℕ) (text : List ℕ) (cert :
   pub text_is : text ≡ meet_text place legs
   pub certified : IsSomeAnd cert (Certifies legs (Meet place))
 
--- the journey that p asked for is told as it is, and the certificate is of what is told
+-- the text states the journey that p asked for, and the certificate is about that journey
 abbrev pub TellsJourney : State → ℕ → Journey → List ℕ → Option Certificate → Type 0
 TellsJourney w p (question.Route to) text cert = TellsRoute w p to text cert
 TellsJourney w p (question.Meet party) text cert = TellsMeeting w party text cert
@@ -77,7 +78,7 @@ pub record IsAcceptedWith (h : List Entry) (c : Certificate) : Type 0 where
   pub written : SpellsHistory (history_text Two h) h
   pub accepted : (text : List ℕ) → SpellsHistory text h → IsFinding text (cert_text c) finding.Accepted
 
--- a certificate of the version of these entries, accepted with all histories from them on that a hall can begin with
+-- a certificate with the version of these entries, accepted with every extension of them that a hall can begin with
 abbrev pub IsCertified : List Entry → Option Certificate → Type 0
 IsCertified h cert =
     IsSomeAnd cert (λ c.

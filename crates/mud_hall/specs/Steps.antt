@@ -1,4 +1,4 @@
--- A hall: one history, many desks, and the steps that they take.
+-- A hall: one history, many desks, and their steps.
 use Rattle.std.specs.Prelude.{◌≡◌, ℕ, ◌+◌, ◌≤◌, ◌⊎◌, nat_eq, if◌then◌else◌}
 use Rattle.std.specs.Prelude.{List, [], ◌∷◌, ◌++◌, length, Option, Some, None}
 use Rattle.std.specs.List.{AllByRecursion}
@@ -12,7 +12,7 @@ use Rattle.mud_hall.specs.Answers.{Answered, Answers}
 
 -- ---- the calls of a desk
 
--- a call of a desk, with what it is answered
+-- a call of a desk, with its result
 pub data Call : Type 0 where
   See : Call
   Act : (line : List ℕ) → (reply : Reply) → Call
@@ -20,7 +20,7 @@ pub data Call : Type 0 where
   Guest : Call
   Told : (lines : List (List ℕ)) → Call
 
--- what a call does to its desk; an answer is by what the desk has seen, and there is none where memory is refused
+-- the effect of a call on its desk; an answer is by what the desk has seen, and there is none if an allocation fails
 abbrev pub Performs : ℕ → DeskState → Call → DeskState → Type 0
 Performs capacity was See is = TakesIn was is
 Performs capacity was (Act line reply) is = Acts capacity was (parse_of line) reply is
@@ -29,31 +29,31 @@ Performs capacity was (Ask line (Some a)) is = Answers was (parse_of line) a × 
 Performs capacity was Guest is = is ≡ as_guest was
 Performs capacity was (Told lines) is = HandsOut was lines is
 
--- calls one after the other
+-- successive calls
 abbrev pub PerformsAll : ℕ → DeskState → List Call → DeskState → Type 0
 PerformsAll capacity was [] is = is ≡ was
 PerformsAll capacity was (call ∷ calls) is =
     (now : DeskState) × Performs capacity was call now × PerformsAll capacity now calls is
 
--- ---- how a hall begins
+-- ---- the initial hall
 
--- a hall: its history, how many desks were given, and each desk by its number
+-- a hall: its history, the number of desks given, and each desk by its number
 pub record Hall : Type 0 where
   pub history : List Entry
   pub given : ℕ
   pub desks : ℕ → Option DeskState
 
--- what a hall can begin with: entries that are each legal in turn, no more than the history can have
+-- the entries that a hall can begin with: each is legal in turn, and the history has room for them
 pub record AreLoadable (capacity : ℕ) (entries : List Entry) : Type 0 where
   pub each : AllByRecursion IsEntry entries
   pub legal : AreLegal (changes_of entries)
   pub few : length entries ≤ capacity
 
--- at first the history is what was loaded, and there is no desk
+-- at first the history is the loaded entries, and there is no desk
 abbrev pub hall_begun : List Entry → Hall
 hall_begun loaded = record { history = loaded; given = 0; desks = λ s. None }
 
--- the hall with this history and with this desk at number s
+-- the hall with this history, and with this desk as number s
 abbrev pub seats : Hall → List Entry → ℕ → DeskState → Hall
 seats hall history s d =
     record { history = history; given = hall.given; desks = λ t. if nat_eq t s then Some d else hall.desks t }
@@ -62,35 +62,36 @@ seats hall history s d =
 abbrev pub lone_desk : DeskState
 lone_desk = as_player (new_desk 1 []) 1
 
--- the hall of one caller
+-- the single-user hall
 abbrev pub opened_alone : Hall
 opened_alone = record (seats (hall_begun []) [] 1 lone_desk) { given = 1 }
 
--- a hall begins with what was loaded and no desk, or with one desk and nothing loaded
+-- a hall begins with the loaded entries and no desk, or with one desk and no loaded entries
 abbrev pub Begins : ℕ → List Entry → Hall → Type 0
 Begins capacity loaded hall =
     (AreLoadable capacity loaded × (hall ≡ hall_begun loaded)) ⊎ ((loaded ≡ []) × (hall ≡ opened_alone))
 
 -- ---- its steps
 
--- a desk is given, a desk learns from another, or something is called at a desk; desks are named by their numbers
+-- a desk is given, a desk learns from another, or a call is made at a desk; desks are named by their numbers
 pub data HallStep : Type 0 where
   Desk : (s : ℕ) → HallStep
   Learn : (s : ℕ) → (t : ℕ) → HallStep
   At : (s : ℕ) → (call : Call) → HallStep
 
--- desk s was so before and is so after, and what it has seen is a beginning of the history; no other desk changes
+-- desk s changes in this way, and what it has seen is a prefix of the history; no other desk changes
 pub record Turns (old : Hall) (s : ℕ) (was is : DeskState) (new : Hall) : Type 0 where
   pub before : old.desks s ≡ Some was
   pub known : IsPrefix is.seen new.history
   pub after : new ≡ seats old new.history s is
 
--- the history after a call: an accepted change ends it, and then the desk has seen all of it; else it stays
+-- the history after a call: an accepted change is appended, and then the desk has seen all of it; otherwise it does not
+-- change
 abbrev pub Grows : Call → List Entry → DeskState → List Entry → Type 0
 Grows (Act line (Accepted version text)) old is new = (e : Entry) × (new ≡ old ++ e ∷ []) × (is.seen ≡ new)
 Grows other old is new = new ≡ old
 
--- what a step does to a hall; a new desk has the next number, and has seen a beginning of the history
+-- the effect of a step on a hall; a new desk has the next number, and has seen a prefix of the history
 abbrev pub Makes : ℕ → List Entry → Hall → HallStep → Hall → Type 0
 Makes capacity loaded old (Desk s) new =
     (is : DeskState) × IsNew loaded is × (is.number ≡ s) × (s ≡ old.given + 1) × IsPrefix is.seen old.history
@@ -102,7 +103,7 @@ Makes capacity loaded old (At s call) new =
     (was : DeskState) × (is : DeskState) × Turns old s was is new × Grows call old.history is new.history
     × Performs capacity was call is
 
--- steps one after the other
+-- successive steps
 abbrev pub IsRun : ℕ → List Entry → Hall → List HallStep → Hall → Type 0
 IsRun capacity loaded old [] new = old ≡ new
 IsRun capacity loaded old (step ∷ steps) new =

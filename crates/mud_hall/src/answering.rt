@@ -1,4 +1,4 @@
-//! What a desk of a hall and a desk of one user answer alike.
+//! Answers that a desk of a hall and a single-user desk share.
 
 ghost use Rattle.std.specs.Prelude.{◌≡◌, ◌≤◌, None, IfOk, string_bytes, IfSome, IsTrue};
 ghost use Rattle.std.specs.Option.{IsSome};
@@ -25,8 +25,8 @@ use mud_words::Parsed;
 use mud_world::World;
 use std::alloc::{AllocError, Global};
 
-/// The answer to what a line says, in a world and at its version; none where it asks for the history, which whoever
-/// has it tells. What is open to a player who asks for a route is kept.
+/// Returns the answer to a line in a world at its version, and `None` if the line asks for the history, which the
+/// caller has. It keeps the traveller of a player who asks for a route.
 pub(crate) fn respond<S: Guide>(
     by: &S,
     alloc: Global,
@@ -58,7 +58,7 @@ pub(crate) fn respond<S: Guide>(
     sight.answer(by, verdict)
 }
 
-// What a line is answered by: a world at its version, who asks, and the traveller that is known. The answers are its
+// The context of an answer: a world at its version, the asking player, and the known traveller. The answers are its
 // methods.
 #[derive(Clone, Copy)]
 struct Sight<'a> {
@@ -70,7 +70,7 @@ struct Sight<'a> {
 }
 
 impl Sight<'_> {
-    // The answer to what a line is decided to be.
+    // Returns the answer to a verdict.
     fn answer<S: Guide>(&self, by: &S, verdict: &Verdict) -> Result<Option<Answer>, AllocError>
         requires ready { S.ready by.now }
         requires sight { IsSight self.now.world.now self.now.version self.now.player self.now.traveller.now }
@@ -85,7 +85,7 @@ impl Sight<'_> {
         }
     }
 
-    // The answer to a question; none to the one about the history.
+    // Returns the answer to a question, and `None` to the one for the history.
     fn explain<S: Guide>(&self, by: &S, query: &Query) -> Result<Option<Answer>, AllocError>
         requires ready { S.ready by.now }
         requires sight { IsSight self.now.world.now self.now.version self.now.player self.now.traveller.now }
@@ -102,7 +102,7 @@ impl Sight<'_> {
         }
     }
 
-    // An answer without a certificate.
+    // Returns an answer without a certificate.
     fn plain(&self, text: &str) -> Result<Answer, AllocError>
         requires { self.now.version ≤ MOST_ENTRIES }
         ensures version { IfOk result (λ a. a.version ≡ self.now.version) }
@@ -116,7 +116,7 @@ impl Sight<'_> {
         })
     }
 
-    // The answer to a question about what a player, or a guest, sees.
+    // Returns the answer to a view of a player or of a guest.
     fn view(&self, view: &View) -> Result<Answer, AllocError>
         requires { self.now.version ≤ MOST_ENTRIES }
         ensures version { IfOk result (λ a. a.version ≡ self.now.version) }
@@ -131,7 +131,7 @@ impl Sight<'_> {
         })
     }
 
-    // The guide's answer to a player's question about a journey.
+    // Returns the guide's answer to a player's question for a journey.
     fn guide<S: Guide>(&self, by: &S, journey: &Journey) -> Result<Answer, AllocError>
         requires ready { S.ready by.now }
         requires sight { IsSight self.now.world.now self.now.version self.now.player self.now.traveller.now }
@@ -155,7 +155,7 @@ impl Sight<'_> {
         )
     }
 
-    // That answer's certificate as a text.
+    // Returns the certificate of that answer as a text.
     fn prove<S: Guide>(&self, by: &S, journey: &Journey) -> Result<Answer, AllocError>
         requires ready { S.ready by.now }
         requires sight { IsSight self.now.world.now self.now.version self.now.player self.now.traveller.now }

@@ -1,11 +1,9 @@
-//! Lines that ask.
+//! Asking: lines that change nothing.
 
 ghost use Rattle.std.specs.Prelude.{◌≡◌, ◌++◌, length, codes, string_bytes, None, IfOk, OnOk, IfSome, IsTrue};
 ghost use Rattle.mud_words.specs.Line.{line_of};
-ghost use Rattle.mud_rules.specs.Outcome.{IsLawful};
 ghost use Rattle.mud_chron.specs.inner.Texts.{written_text};
 ghost use Rattle.mud_hall.specs.Notices.{world_after};
-ghost use Rattle.mud_hall.specs.Replies.{verdict_on};
 ghost use Rattle.mud_hall.specs.Answers.{answer_shown, Answers};
 ghost use Rattle.mud_world.specs.State.{is_player};
 
@@ -16,13 +14,12 @@ use crate::name::HallName;
 use crate::texts::known_answer;
 use mud_guide::Answer;
 use mud_row::Row;
-use mud_rules::{Verdict, decide};
 use mud_words::Parsed;
 use mud_world::World;
 use std::alloc::{AllocError, Global};
 
 impl<J: HallName> Desk<J> {
-    // Answers what a line says at exactly what it has seen.
+    // Answers a line by exactly the entries that the desk has seen.
     pub(crate) fn answer<S: Guide>(
         &mut self,
         by: &S,
@@ -40,7 +37,7 @@ impl<J: HallName> Desk<J> {
         self.respond(by, alloc, row, said)
     }
 
-    // Answers what a line says in the world of all that it has seen.
+    // Answers a line in the world of all entries that the desk has seen.
     fn respond<S: Guide>(
         &mut self,
         by: &S,
@@ -63,7 +60,7 @@ impl<J: HallName> Desk<J> {
         }
     }
 
-    // The world of all that it has seen.
+    // Returns the world of all entries that the desk has seen.
     pub(crate) fn world(&self) -> &World
         requires { self.now.at ≡ length self.now.state.seen }
         ensures { result.now ≡ world_after self.now.state.seen }
@@ -71,8 +68,8 @@ impl<J: HallName> Desk<J> {
         self.replica.world()
     }
 
-    // Who sits here, a player of that world, or nobody.
-    fn player(&self) -> Option<u32>
+    // Returns the player of this desk, who is one of that world, or `None` for a guest.
+    pub(crate) fn player(&self) -> Option<u32>
         ensures player { result ≡ self.now.state.player }
         ensures seated { IfSome self.now.state.player
             (λ p. IsTrue (is_player (world_after self.now.state.seen) p)) }
@@ -80,17 +77,7 @@ impl<J: HallName> Desk<J> {
         self.player
     }
 
-    // What is decided of what a line says, in the world of all that it has seen.
-    pub(crate) fn verdict(&self, alloc: Global, said: &Parsed) -> Result<Verdict, AllocError>
-        requires all { self.now.at ≡ length self.now.state.seen }
-        ensures decision { IfOk result (λ v. v
-            ≡ verdict_on self.now.state.seen self.now.state.player (line_of said.now)) }
-        ensures lawful { IfOk result (IsLawful (world_after self.now.state.seen) self.now.state.player) }
-    {
-        decide(alloc, self.world(), self.player(), said)
-    }
-
-    // The answer to the question about the history.
+    // Returns the answer to the question for the history.
     fn history(&mut self, alloc: Global, row: &Row) -> Result<Answer, AllocError>
         requires { row.now ≡ J.cells }
         ensures same { self.new.state ≡ self.old.state }

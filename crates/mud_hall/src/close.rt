@@ -1,4 +1,4 @@
-//! The settlement of a hall.
+//! Closes a hall.
 
 ghost use Rattle.std.specs.Prelude.{◌≡◌, ◌≤◌, ◌+◌, ◌↔◌, ◌⊎◌, length, All, IfOk, IfErr, IfSome, IsTrue, OnOk};
 ghost use mathlib.Core.List.{IsPrefix};
@@ -19,23 +19,22 @@ use mud_row::{History, Pass, Row};
 use std::alloc::Global;
 use std::sync::Wait;
 
-/// What the desks of a hall made.
+/// The settled history of a hall.
 #[derive(Drop)]
 pub struct Settled {
-    /// All entries, with those that were loaded in front.
+    /// All entries, beginning with the loaded ones.
     pub history: History,
-    /// How many were accepted here.
+    /// The number of entries that were accepted here.
     pub accepted: u32,
-    /// How many were loaded.
+    /// The number of loaded entries.
     pub loaded: u32,
 }
 
 impl<J: HallName> Hall<J> {
-    /// Ends the hall and gives its history, where the desks that are handed in are those that made
-    /// it; else hall and desks come back. Tried in this order: `SameNumber`, the least number that
-    /// two of them have; `Missing`, the least that none of them has; `Mismatch`, the least version
-    /// at which what they know and what they did differ. No entry is copied, and with the hall and
-    /// its desks all their worlds are gone.
+    /// Closes the hall and returns its history, if these are the desks that made it. Otherwise the hall and the desks
+    /// come back with the first of three faults. `SameNumber` has the least number that two desks have, and `Missing`
+    /// the least that no desk has. `Mismatch` has the least version at which the entries and the calls differ. No entry
+    /// is copied. The worlds of the hall and of its desks are dropped.
     pub fn close<R: Wait>(
         self,
         rt: &R,
@@ -55,7 +54,7 @@ impl<J: HallName> Hall<J> {
         }
     }
 
-    // Which entries the desks made, with those that were loaded in front, and how many they made.
+    // Returns the entries that the desks made, after the loaded ones, and the number of entries made.
     fn settle<R: Wait>(&self, rt: &R, desks: &mut Vec<Desk<J>>) -> Result<(Pass, u32), CloseFault>
         ensures same { desks.new.items ≡ desks.old.items }
         ensures row { IfOk result (λ s. s.0.row ≡ J.cells) }
@@ -67,7 +66,7 @@ impl<J: HallName> Hall<J> {
         kept.settle(self.alloc, &self.row, self.loaded, desks)
     }
 
-    // The history that is left of the hall.
+    // Returns the history that remains of the hall.
     fn history_left(self, whole: Pass, accepted: u32) -> Settled
         requires { whole.row ≡ J.cells }
         ensures history { result.history ≡ whole.list }
@@ -77,7 +76,7 @@ impl<J: HallName> Hall<J> {
     {
         let Hall { row, loaded, .. } = self;
         let history = History::new(row, whole);
-        // for the prover: `len` says that they are at most 65,536
+        // for the prover: `len` shows that there are at most 65,536
         let _known = history.len();
         Settled {
             history,
@@ -88,7 +87,7 @@ impl<J: HallName> Hall<J> {
 }
 
 impl<J: HallName> Kept<J> {
-    // Which entries the desks made, with those that were loaded in front, and how many they made.
+    // Returns the entries that the desks made, after the loaded ones, and the number of entries made.
     fn settle(
         &mut self,
         alloc: Global,
@@ -114,7 +113,7 @@ impl<J: HallName> Kept<J> {
         Ok((whole, accepted))
     }
 
-    // The longest of what was loaded and of what each desk knows.
+    // Returns the longest prefix among the loaded entries and those that each desk knows.
     fn gather(&mut self, alloc: Global, desks: &mut Vec<Desk<J>>) -> Result<Pass, CloseFault>
         ensures same { desks.new.items ≡ desks.old.items }
         ensures row { IfOk result (λ h. h.row ≡ J.cells) }
@@ -127,7 +126,7 @@ impl<J: HallName> Kept<J> {
     }
 }
 
-// The pass learns all that any desk knows.
+// Advances the pass to the longest prefix that any desk knows.
 pub(crate) fn gather<J: HallName>(desks: &mut Vec<Desk<J>>, whole: &mut Pass)
     requires { whole.old.row ≡ J.cells }
     ensures same { desks.new.items ≡ desks.old.items }
@@ -140,7 +139,7 @@ pub(crate) fn gather<J: HallName>(desks: &mut Vec<Desk<J>>, whole: &mut Pass)
     }
 }
 
-// Whether the desks made these entries, of which the first makes version `first`.
+// Checks that the desks made these entries; the first has version `first`.
 fn check<J: HallName>(
     desks: &[Desk<J>],
     given: u32,
@@ -167,7 +166,7 @@ fn check<J: HallName>(
     Ok(())
 }
 
-// The least number that two desks have.
+// Returns the least number that two desks have.
 fn same_number<J: HallName>(desks: &[Desk<J>]) -> Option<u32>
     ensures { IsLeast (HaveSameNumber desks.now) result }
 {
@@ -181,14 +180,14 @@ fn same_number<J: HallName>(desks: &[Desk<J>]) -> Option<u32>
     least
 }
 
-// Whether some desk has the number.
+// Returns whether some desk has the number.
 fn has_number<J: HallName>(desks: &[Desk<J>], number: u32) -> bool
     ensures { IsTrue result ↔ HasNumber desks.now number }
 {
     desks.iter().any(|d| d.number() == number)
 }
 
-// The lesser of two numbers.
+// Returns the lesser of two numbers.
 fn lesser(a: Option<u32>, b: Option<u32>) -> Option<u32>
     ensures { result ≡ lesser_of a b }
 {
@@ -201,7 +200,7 @@ fn lesser(a: Option<u32>, b: Option<u32>) -> Option<u32>
     }
 }
 
-// The least number up to `given` that no desk has.
+// Returns the least number up to `given` that no desk has.
 fn first_missing<J: HallName>(desks: &[Desk<J>], given: u32) -> Option<u32>
     requires { given ≤ MOST_DESKS }
     ensures some { IfSome result (IsMissing desks.now) }
@@ -214,7 +213,7 @@ fn first_missing<J: HallName>(desks: &[Desk<J>], given: u32) -> Option<u32>
     None
 }
 
-// The least version at odds.
+// Returns the least version at which entries and calls differ.
 fn mismatch<J: HallName>(desks: &[Desk<J>], new: &mut Made<'_>, first: u32) -> Option<u32>
     requires { length new.old + first ≤ MOST_ENTRIES + 1 }
     ensures same { new.new ≡ new.old }
@@ -226,7 +225,7 @@ fn mismatch<J: HallName>(desks: &[Desk<J>], new: &mut Made<'_>, first: u32) -> O
     )
 }
 
-// The least version whose entry bears the number of no desk.
+// Returns the least version whose entry has the number of no desk.
 fn first_unnamed<J: HallName>(desks: &[Desk<J>], new: &mut Made<'_>, first: u32) -> Option<u32>
     requires { length new.old + first ≤ MOST_ENTRIES + 1 }
     ensures same { new.new ≡ new.old }
@@ -240,7 +239,7 @@ fn first_unnamed<J: HallName>(desks: &[Desk<J>], new: &mut Made<'_>, first: u32)
     None
 }
 
-// The least of the versions at which the calls of a desk and the entries differ first.
+// Returns the least of the versions at which each desk's calls and the entries first differ.
 fn first_difference<J: HallName>(desks: &[Desk<J>], new: &mut Made<'_>, first: u32) -> Option<u32>
     requires { length new.old + first ≤ MOST_ENTRIES + 1 }
     ensures same { new.new ≡ new.old }
@@ -254,7 +253,7 @@ fn first_difference<J: HallName>(desks: &[Desk<J>], new: &mut Made<'_>, first: u
 }
 
 impl<J: HallName> Desk<J> {
-    // The pass learns what the desk knows.
+    // Advances the pass to the prefix that the desk knows.
     fn tell(&mut self, whole: &mut Pass)
         requires { whole.old.row ≡ J.cells }
         ensures same { self.new ≡ self.old }
@@ -266,7 +265,7 @@ impl<J: HallName> Desk<J> {
         self.replica.tell(whole);
     }
 
-    // The first version at which its calls and the entries differ.
+    // Returns the first version at which its calls and the entries differ.
     fn differs(&self, new: &mut Made<'_>, first: u32) -> Option<u32>
         requires { length new.old + first ≤ MOST_ENTRIES + 1 }
         ensures same { new.new ≡ new.old }
@@ -276,7 +275,7 @@ impl<J: HallName> Desk<J> {
     }
 }
 
-// The first version at which the calls of the desk of this number and the entries differ.
+// Returns the first version at which the calls of the desk with this number and the entries differ.
 fn differs(number: u32, calls: &[u32], new: &mut Made<'_>, first: u32) -> Option<u32>
     requires { length new.old + first ≤ MOST_ENTRIES + 1 }
     ensures same { new.new ≡ new.old }

@@ -1,4 +1,4 @@
-//! One caller's side of a hall.
+//! Desks: one caller's side of a hall.
 
 ghost use Rattle.std.specs.Prelude.{◌≡◌, ◌++◌, ◌<◌, ◌≤◌, ◌+◌, length, max};
 ghost use Rattle.std.specs.Prelude.{map, is_some, Some, None, IfOk, OnErr, OnOk, MatchBool, string_bytes};
@@ -21,8 +21,8 @@ use std::alloc::{AllocError, Global};
 use std::marker::{Model, PhantomData};
 use std::mem;
 
-/// One caller's side of a hall: who he is, what he knows, what he did and what he was told. What he
-/// knows is in a box, so that a desk is small where it is moved.
+/// One caller's side of a hall: its player, its replica of the history, its accepted calls, and its notices. The
+/// replica is boxed, so that a desk is cheap to move.
 #[derive(Drop)]
 pub struct Desk<J: HallName> {
     pub(crate) number: u32,
@@ -30,7 +30,7 @@ pub struct Desk<J: HallName> {
     pub(crate) replica: Box<Replica>,
     pub(crate) calls: Vec<u32>,
     pub(crate) told: Vec<String>,
-    // what was found to be open to its player, as long as its world and its player stay the same
+    // the traveller of its player, as long as the world and the player stay the same
     pub(crate) traveller: Option<Traveller>,
     of: PhantomData<J>,
 }
@@ -47,7 +47,7 @@ impl<J: HallName> Model for Desk<J> {
 
     ghost coded = { Prim.hlevel (codes, coded_number_tree) };
 
-    // It hears also of what its world has not taken in yet.
+    // The desk also has notices of entries that its world has not applied yet.
     ghost view = { λ d. record {
       state = record {
         number = d.number;
@@ -65,7 +65,7 @@ impl<J: HallName> Model for Desk<J> {
 }
 
 impl<J: HallName> Desk<J> {
-    // A new guest's desk with this replica.
+    // Returns a new guest's desk with this replica.
     pub(crate) fn guest_at(alloc: Global, replica: Box<Replica>, number: u32) -> Desk<J>
         requires row { replica.value.row ≡ J.cells }
         requires loaded { IsPrefix J.loaded replica.value.list }
@@ -84,21 +84,21 @@ impl<J: HallName> Desk<J> {
         }
     }
 
-    /// Its number in its hall, 1 to 64.
+    /// Returns its number in its hall, 1 to 64.
     pub fn number(&self) -> u32
         ensures { result ≡ self.now.state.number }
     {
         self.number
     }
 
-    /// Whether it is a player's; else it is a guest's.
+    /// Returns whether it is a player's; otherwise it is a guest's.
     pub fn has_player(&self) -> bool
         ensures { result ≡ is_some self.now.state.player }
     {
         self.player.is_some()
     }
 
-    /// How many entries it has seen.
+    /// Returns the number of entries that it has seen.
     pub fn seen(&self) -> u32
         ensures seen { result ≡ length self.now.state.seen }
         ensures limit { result ≤ MOST_ENTRIES }
@@ -106,14 +106,14 @@ impl<J: HallName> Desk<J> {
         self.replica.known()
     }
 
-    /// How many changes were accepted here.
+    /// Returns the number of its accepted changes.
     pub fn accepted_count(&self) -> usize
         ensures { result ≡ length self.now.state.calls }
     {
         self.calls.len()
     }
 
-    // Takes one more known entry into its world, with the line that its player is told of it.
+    // Applies one more known entry to its world, and stores the notice for its player.
     fn take_one(&mut self, alloc: Global, row: &Row) -> Result<bool, AllocError>
         requires { row.now ≡ J.cells }
         ensures still { self.new.state ≡ self.old.state }
@@ -135,8 +135,8 @@ impl<J: HallName> Desk<J> {
         Ok(true)
     }
 
-    // Takes the cells that are found set, none after the `most`-th, into what it knows.
-    fn extend_to(&mut self, row: &Row, most: u32)
+    // Makes the cells known that are set, but none after the `most`-th.
+    pub(crate) fn extend_to(&mut self, row: &Row, most: u32)
         requires { row.now ≡ J.cells }
         ensures at { self.new.at ≡ self.old.at }
         ensures state { TakesIn self.old.state self.new.state }
@@ -145,7 +145,7 @@ impl<J: HallName> Desk<J> {
         self.replica.extend_to(row, most);
     }
 
-    // Takes all that it knows into its world.
+    // Applies all known entries to its world.
     pub(crate) fn catch_up(&mut self, alloc: Global, row: &Row) -> Result<(), AllocError>
         requires { row.now ≡ J.cells }
         ensures still { self.new.state ≡ self.old.state }
@@ -157,32 +157,7 @@ impl<J: HallName> Desk<J> {
         Ok(())
     }
 
-    // Takes all cells that are found set into what it knows and into its world.
-    pub(crate) fn take_in(&mut self, alloc: Global, row: &Row) -> Result<(), AllocError>
-        requires { row.now ≡ J.cells }
-        ensures state { TakesIn self.old.state self.new.state }
-        ensures ok { OnOk result (self.new.at ≡ length self.new.state.seen) }
-    {
-        self.take_in_to(alloc, row, u32::MAX)
-    }
-
-    // Takes those of the first `most` cells that are found set into what it knows and into its world.
-    pub(crate) fn take_in_to(
-        &mut self,
-        alloc: Global,
-        row: &Row,
-        most: u32,
-    ) -> Result<(), AllocError>
-        requires { row.now ≡ J.cells }
-        ensures state { TakesIn self.old.state self.new.state }
-        ensures most { length self.new.state.seen ≤ max (length self.old.state.seen) most }
-        ensures ok { OnOk result (self.new.at ≡ length self.new.state.seen) }
-    {
-        self.extend_to(row, most);
-        self.catch_up(alloc, row)
-    }
-
-    /// Takes over what another desk of its hall knows, where that is more. It takes no memory.
+    /// Advances to the entries that another desk of its hall has seen, if those are more. It does not allocate.
     pub fn learn(&mut self, other: &mut Desk<J>)
         ensures other_same { other.new ≡ other.old }
         ensures at { self.new.at ≡ self.old.at }
@@ -192,7 +167,7 @@ impl<J: HallName> Desk<J> {
         self.replica.learn(&mut other.replica);
     }
 
-    /// A guest's desk again: its number, what it knows and its calls stay. It takes no memory.
+    /// Makes it a guest's desk again. Its number, its known entries and its calls stay. It does not allocate.
     pub fn guest(&mut self)
         ensures { self.new ≡ record { state = as_guest self.old.state; at = self.old.at } }
     {
@@ -200,8 +175,8 @@ impl<J: HallName> Desk<J> {
         self.told = Vec::new(*Vec::allocator(&self.told));
     }
 
-    /// The lines that it was told of the entries that its world took in, each once; of the others it
-    /// will be told later. It takes no memory.
+    /// Returns the notices of the entries that its world has applied, each once. The notices of the other entries come
+    /// later. It does not allocate.
     pub fn take_told(&mut self) -> Vec<String>
         ensures told { self.old.state.told ≡ map string_bytes result.items ++ self.new.state.told }
         ensures rest { self.new ≡ record { state = with_told self.old.state (pending self.old); at = self.old.at } }
@@ -211,7 +186,7 @@ impl<J: HallName> Desk<J> {
     }
 }
 
-// One more line, if there is one. There is room for it.
+// Appends a line, if there is one. There is capacity for it.
 fn push_line(lines: &mut Vec<String>, line: Option<String>)
     requires { vec_len lines.old < vec_capacity lines.old }
     ensures { map string_bytes lines.new.items
@@ -222,7 +197,7 @@ fn push_line(lines: &mut Vec<String>, line: Option<String>)
     }
 }
 
-// The notice of an entry for a player, if he hears it; the world is the one before it.
+// Returns the notice of an entry for a player, if the player hears it, given the world before the entry.
 fn line_told(
     alloc: Global,
     player: Option<u32>,
@@ -242,7 +217,7 @@ fn line_told(
     }
 }
 
-// A notice names the change that was heard.
+// Returns the text of a notice, which names the version of the change.
 fn notice_text(alloc: Global, version: u32, line: &str) -> Result<String, AllocError>
     ensures { IfOk result (λ text. string_bytes text ≡ notice_text version line.now) }
 {

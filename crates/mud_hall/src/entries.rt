@@ -1,4 +1,4 @@
-//! The entries of a hall, as they stand in its row.
+//! The entries of a hall, in the cells of its row.
 
 ghost use Rattle.std.specs.Prelude.{◌≡◌, ◌≤◌, ◌<◌, length, drop, Some, slice_get};
 ghost use Rattle.mud_world.specs.declared.limits.TheConstants.{MOST_ENTRIES};
@@ -7,8 +7,8 @@ ghost use Rattle.mud_chron.specs.Entry.{Entry};
 use mud_row::{Pass, Row};
 use std::marker::Model;
 
-/// The entries that were made after what was loaded: of those that the pass knows, all but the first so many. A
-/// contract sees them in order.
+/// The entries after the loaded ones: of the entries that the pass knows, all but the first `loaded`. A contract sees
+/// them in order.
 #[derive(Drop)]
 pub(crate) struct Made<'r> {
     row: &'r Row,
@@ -33,7 +33,7 @@ impl<'r> Model for Made<'r> {
 }
 
 impl<'r> Made<'r> {
-    /// Those after the first `loaded` that the pass knows.
+    /// Returns the entries that the pass knows after the first `loaded`.
     pub(crate) fn new(row: &'r Row, pass: Pass, loaded: u32) -> Made<'r>
         requires row { pass.row ≡ row.now }
         requires loaded { loaded ≤ length pass.list }
@@ -42,7 +42,7 @@ impl<'r> Made<'r> {
         Made { row, pass, loaded }
     }
 
-    /// How many they are.
+    /// Returns the number of entries.
     pub(crate) fn len(&self) -> u32
         ensures len { result ≡ length self.now }
         ensures limit { result ≤ MOST_ENTRIES }
@@ -50,13 +50,13 @@ impl<'r> Made<'r> {
         self.pass.known() - self.loaded
     }
 
-    /// The number of the desk that made the one at this place, counted from 0.
+    /// Returns the number of the desk that made the entry at this place, counted from 0.
     pub(crate) fn desk(&mut self, i: u32) -> u32
         requires { i < length self.old }
         ensures same { self.new ≡ self.old }
         ensures desk { (e : Entry) × (slice_get self.old i ≡ Some e) × (result ≡ e.desk) }
     {
-        // for the prover: `known` says that they are at most 65,536, so that the sum below fits
+        // for the prover: `known` shows that there are at most 65,536, so the sum below does not overflow
         let _known = self.pass.known();
         match self.row.entry(&mut self.pass, self.loaded + i + 1) {
             Some(entry) => entry.desk(),

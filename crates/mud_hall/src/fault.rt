@@ -1,21 +1,21 @@
-//! Why a line was not acted on.
+//! The faults of a hall.
 
 use std::alloc::{AllocError, AllocFailed};
 use thiserror::Error;
 
-/// Why a line was not acted on, or no desk was given. The history has no entry of the call then.
+/// The reason why a line was not acted on, or a desk not given. The history has no entry of the call then.
 #[derive(Clone, Copy, PartialEq, Eq, Debug, Drop, Error)]
 pub enum Fault {
-    /// Memory ran out.
+    /// An allocation failed.
     #[error("out of memory")]
     OutOfMemory,
-    /// The line is a change, and the history takes no more.
+    /// The line is a change, and the history is full.
     #[error("history full")]
     HistoryFull,
     /// The line is a change, and the history did not take it.
     #[error("not stored")]
     Unpublished,
-    /// 64 desks were given.
+    /// All 64 desks were given.
     #[error("no desk is left")]
     DesksFull,
 }
@@ -42,13 +42,13 @@ impl<T: Drop> From<AllocFailed<T>> for Fault {
     }
 }
 
-/// Why a hall does not go on from a history.
+/// The reason why a hall does not continue a history.
 #[derive(PartialEq, Eq, Debug, Drop, Error)]
 pub enum LoadFault {
-    /// Memory ran out.
+    /// An allocation failed.
     #[error("out of memory")]
     OutOfMemory,
-    /// The change of this entry, counted from 1, is not legal where it stands.
+    /// The change of this entry, counted from 1, is illegal where it occurs.
     #[error("change {0} is not legal")]
     BadChange(usize),
     /// There are more entries than the history can have.
@@ -70,19 +70,19 @@ impl From<AllocError> for LoadFault {
     }
 }
 
-/// Why a hall was not closed.
+/// The reason why a hall was not closed.
 #[derive(Clone, Copy, PartialEq, Eq, Debug, Drop, Error)]
 pub enum CloseFault {
-    /// Memory ran out.
+    /// An allocation failed.
     #[error("out of memory")]
     OutOfMemory,
-    /// Two desks that are handed in have this number, the least such.
+    /// Two of the desks have this number; it is the least with this property.
     #[error("two desks have the number {0}")]
     SameNumber(u32),
-    /// The desk of this number was given and is not handed in; it is the least such number.
+    /// The desk with this number was given and is missing; it is the least with this property.
     #[error("desk {0} is missing")]
     Missing(u32),
-    /// The entry of this version and the calls of the desks differ, and so they do at no lesser one.
+    /// The entry with this version differs from the calls of the desks; it is the least with this property.
     #[error("version {0} is nobody's call")]
     Mismatch(u32),
 }

@@ -1,4 +1,4 @@
-//! Who finds what the guide is asked for.
+//! Interface to the guide: on the caller's thread, or with workers.
 
 ghost use Rattle.std.specs.Prelude.{◌≡◌, ◌≤◌, ⊤, ℕ, Some, IfOk, IfSome, IsTrue};
 ghost use Rattle.mud_world.specs.State.{is_player};
@@ -16,12 +16,12 @@ use std::alloc::{AllocError, Global};
 use std::sync::Wait;
 use std::thread::Threads;
 
-/// Who finds what the guide is asked for.
+/// A way to compute the guide's answers.
 pub(crate) trait Guide {
-    /// What a caller must know of it.
+    /// The precondition of a call.
     ghost ready: { Self → Type 0 } = { λ _. ⊤ };
 
-    /// The guide's answer to a player's question about a journey. The traveller, if there is one, is he.
+    /// Returns the guide's answer to a player's question for a journey. The traveller, if given, is that player.
     fn journey(
         &self,
         alloc: Global,
@@ -40,7 +40,7 @@ pub(crate) trait Guide {
         ensures guided { IfOk result (IsGuided world.now version (Some player) journey.now) };
 }
 
-/// The caller's thread alone.
+/// The caller's thread without workers.
 #[derive(Clone, Copy, Drop)]
 pub(crate) struct Alone;
 
@@ -64,7 +64,7 @@ impl Guide for Alone {
     }
 }
 
-/// Whoever a closure has find it. A method of a trait can start no thread, and a closure can.
+/// The workers that a closure has. A method of a trait can't start threads, and a closure can.
 #[derive(Drop)]
 pub(crate) struct Through<
     F: Fn(Global, &World, u32, u32, Option<&Traveller>, &Journey) -> Result<Answer, AllocError>,
@@ -94,8 +94,8 @@ impl<
     }
 }
 
-/// The guide's answer to a player's question about a journey, by workers. The traveller, if there is one, is that
-/// player.
+/// Returns the guide's answer to a player's question for a journey, computed by workers. The traveller, if given, is
+/// that player.
 pub(crate) fn by_workers<R: Threads + Wait + Sync, G: Gate + Sync>(
     by: &Workers<'_, R, G>,
     alloc: Global,

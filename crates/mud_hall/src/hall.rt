@@ -1,4 +1,4 @@
-//! Many desks over one history.
+//! The hall: many desks over one history.
 
 ghost use Rattle.std.specs.Prelude.{◌≡◌, ◌≢◌, ◌≤◌, ◌<◌, ◌⊎◌, [], length, max, IfOk, IfErr, OnOk};
 ghost use Rattle.std.specs.Prelude.{Some, IfSome, IsTrue};
@@ -40,13 +40,12 @@ use std::sync::{Mutex, MutexGuard, Wait};
 use std::thread::Threads;
 use std::time::Duration;
 
-// How often a thread tries to take the lock of a hall before it rests, and for how many microseconds.
+// The number of attempts to take a hall's lock before a thread rests, and the rest in microseconds.
 const LOCK_TRIES: u32 = 500;
 
 const LOCK_REST: u64 = 50;
 
-/// A hall that has no name yet. A contract sees the names of the cells of its history, and the
-/// entries that it begins with.
+/// A hall that has no name yet. A contract sees the names of the cells of its history, and its initial entries.
 #[derive(Drop)]
 pub struct NewHall {
     row: Row,
@@ -73,8 +72,8 @@ impl Model for NewHall {
 }
 
 impl NewHall {
-    /// A hall whose history is empty and can have `capacity` entries, 1 to 65,536. The only error is
-    /// out of memory.
+    /// Returns a hall with an empty history of at most `capacity` entries, 1 to 65,536. The only error is out of
+    /// memory.
     pub fn open(alloc: Global, capacity: u32) -> Result<NewHall, AllocError>
         requires from { 1 ≤ capacity }
         requires to { capacity ≤ MOST_ENTRIES }
@@ -92,9 +91,9 @@ impl NewHall {
         })
     }
 
-    /// A hall that goes on from these entries. Tried in this order: `BadChange`, the first entry
-    /// whose change is not legal where it stands; `OverCapacity`, more entries than the history can
-    /// have; `NotStored`.
+    /// Returns a hall that continues these entries. The error is the first of these: `BadChange` for the first entry
+    /// whose change is illegal where it occurs, `OverCapacity` if there are more entries than the history can have, and
+    /// `NotStored`.
     pub fn resume(alloc: Global, capacity: u32, entries: Vec<Entry>) -> Result<NewHall, LoadFault>
         requires from { 1 ≤ capacity }
         requires to { capacity ≤ MOST_ENTRIES }
@@ -129,7 +128,7 @@ impl NewHall {
         }
     }
 
-    /// The hall by its name, from which all types of its desks take it.
+    /// Gives the hall its name, which the types of its desks carry too.
     pub fn with_name<J: HallName>(self) -> Hall<J>
         requires cells { self.cells ≡ J.cells }
         requires loaded { self.loaded ≡ J.loaded }
@@ -151,7 +150,7 @@ impl NewHall {
     }
 }
 
-// Whether each change is legal where it stands, and the history can have them all.
+// Checks that each change is legal where it occurs, and that the history has room for all of them.
 fn is_loadable(alloc: Global, capacity: u32, entries: &[Entry]) -> Result<(), LoadFault>
     ensures loadable { OnOk result (AreLoadable capacity entries.now) }
     ensures fault { IfErr result (IsLoadFault capacity entries.now) }
@@ -165,25 +164,25 @@ fn is_loadable(alloc: Global, capacity: u32, entries: &[Entry]) -> Result<(), Lo
     if entries.len() > capacity as usize {
         return Err(LoadFault::OverCapacity);
     }
-    // for the prover: each of them keeps the invariant of an entry
+    // for the prover: each entry keeps its invariant
     know_entries(entries);
     Ok(())
 }
 
-// Tells the prover that each of these keeps the invariant of an entry. It changes nothing when it runs.
+// Tells the prover that each entry keeps its invariant. It does nothing at run time.
 fn know_entries(entries: &[Entry])
     ensures { AllByRecursion IsEntry entries.now }
 {
     for entry in entries {
-        // for the prover: `desk` says that an entry keeps its invariant
+        // for the prover: `desk` shows that an entry keeps its invariant
         let _known = entry.desk();
     }
 }
 
-/// One history, and the desks of those who make it. Its lock keeps how many desks were given and what was loaded; a
-/// second one keeps the world that new desks copy, so that who acts never waits for that. How many entries the history
-/// can have, and which were loaded, its type says. That threads may share a hall is `hall_sync` of proofs/Crosses.antt,
-/// shown there from the same of its parts: the prover's own search finds no proof of all at once.
+/// A history, and the desks that make it. Its first lock protects the number of desks given and the loaded entries. A
+/// second lock protects the replica that new desks copy, so that acting never waits for a copy. The type carries the
+/// capacity and the loaded entries. `hall_sync` of proofs/Crosses.antt proves that threads may share a hall, from the
+/// same fact about its parts; the prover's own search does not find a proof of the whole.
 #[derive(Drop)]
 pub struct Hall<J: HallName> {
     pub(crate) kept: Mutex<Kept<J>>,
@@ -196,7 +195,7 @@ pub struct Hall<J: HallName> {
 }
 
 impl<J: HallName> Hall<J> {
-    /// How many entries the history can have, 1 to 65,536.
+    /// Returns the capacity of the history, 1 to 65,536.
     pub fn capacity(&self) -> u32
         ensures capacity { result ≡ length J.cells }
         ensures limit { result ≤ MOST_ENTRIES }
@@ -204,15 +203,15 @@ impl<J: HallName> Hall<J> {
         self.row.capacity()
     }
 
-    /// How many entries it began with.
+    /// Returns the number of entries that it began with.
     pub fn loaded_count(&self) -> u32
         ensures { result ≡ length J.loaded }
     {
         self.loaded
     }
 
-    /// A guest's desk of the next number, from 1, which has seen the whole history. It is
-    /// `DesksFull` where 64 were given. Who acts does not wait while a world is copied for it.
+    /// Returns a guest's desk with the next number, beginning with 1, which has seen the whole history. The error is
+    /// `DesksFull` if 64 desks were given. Acting does not wait while a world is copied for the desk.
     pub fn desk<R: Wait>(&self, rt: &R) -> Result<Desk<J>, Fault>
         ensures new { IfOk result (λ d. IsNew J.loaded d.state) }
         ensures fault { IfErr result (λ f. (f ≡ Fault.OutOfMemory) ⊎ (f ≡ Fault.DesksFull)) }
@@ -222,7 +221,7 @@ impl<J: HallName> Hall<J> {
         kept.desk(self.alloc, replica)
     }
 
-    // A copy of what the hall itself knows, once it knows all that is found.
+    // Returns a copy of the hall's own replica, after it has applied every set cell.
     fn copy_replica<R: Wait>(&self, rt: &R) -> Result<Box<Replica>, AllocError>
         ensures row { IfOk result (λ r. r.value.row ≡ J.cells) }
         ensures loaded { IfOk result (λ r. IsPrefix J.loaded r.value.list) }
@@ -232,55 +231,51 @@ impl<J: HallName> Hall<J> {
         Ok(Box::new(self.alloc, replica)?)
     }
 
-    // Takes the lock for a desk, which takes entries in as long as another has it: so it holds the lock for its own
-    // change only. Nobody sleeps for the lock itself: a lock that is handed to a thread that sleeps stays unused until
-    // that thread has woken, which takes longer than a change does.
+    // Takes the act lock for a desk. While another thread holds it, the desk applies entries, so that under the lock it
+    // has only its own change to make. It does not sleep on the lock itself: a lock handed to a sleeping thread stays
+    // unused until that thread has woken, which takes longer than a change.
     fn lock_for<R: Wait>(
         &self,
         rt: &R,
         desk: &mut Desk<J>,
-    ) -> Result<MutexGuard<'_, Kept<J>>, AllocError>
-        ensures { TakesIn desk.old.state desk.new.state }
+    ) -> Result<MutexGuard<'_, Kept<J>>, Fault>
+        ensures takes { TakesIn desk.old.state desk.new.state }
+        ensures fault { IfErr result (λ f. f ≡ Fault.OutOfMemory) }
     {
+        let mut tries = 0;
         for _ in rt.forever() {
-            if let Some(kept) = self.try_for(desk)? {
+            desk.see(self)?;
+            if let Some(kept) = self.kept.try_lock() {
                 return Ok(kept);
             }
-            AtomicU64::new(0).park_timeout(rt, 0, Duration::from_micros(LOCK_REST));
+            tries += 1;
+            if tries < LOCK_TRIES {
+                spin_loop();
+            } else {
+                tries = 0;
+                AtomicU64::new(0).park_timeout(rt, 0, Duration::from_micros(LOCK_REST));
+            }
         }
         unreachable!()
     }
 
-    // Takes the lock for a desk, unless others have it too long.
-    fn try_for(&self, desk: &mut Desk<J>) -> Result<Option<MutexGuard<'_, Kept<J>>>, AllocError>
-        ensures { TakesIn desk.old.state desk.new.state }
-    {
-        for _ in 0..LOCK_TRIES {
-            desk.take_in(self.alloc, &self.row)?;
-            if let Some(kept) = self.kept.try_lock() {
-                return Ok(Some(kept));
-            }
-            spin_loop();
-        }
-        Ok(None)
-    }
-
-    // Has what new desks copy follow the history, unless somebody else has it do so now.
+    // Advances the replica that new desks copy, unless another thread is doing so.
     fn follow(&self) {
         if let Some(mut fresh) = self.fresh.try_lock() {
             fresh.follow(&self.row);
         }
     }
 
-    /// Takes in all entries, and then replies to what a line says in the world that they lead to. A change is added to
-    /// the history: `HistoryFull` where it takes no more, `Unpublished` where it did not take the entry. After a fault
-    /// the history has no entry of this call.
+    /// Applies all entries, and then acts on a line in the resulting world. A change becomes the next entry of the
+    /// history; the error is `HistoryFull` if there is no room, and `Unpublished` if the history did not take the
+    /// entry. After a fault the history has no entry of this call.
     pub fn act<R: Wait>(&self, rt: &R, desk: &mut Desk<J>, said: &Parsed) -> Result<Reply, Fault>
         ensures acts { Acts (length J.cells) desk.old.state (line_of said.now) (reply_shown result) desk.new.state }
         ensures told { reply_shown result ≢ Failed Fault.OutOfMemory → pending desk.new ≡ [] }
     {
         let kept = self.lock_for(rt, desk)?;
-        let reply = desk.act(self.alloc, &self.row, said);
+        desk.see(self)?;
+        let reply = desk.reply(self.alloc, &self.row, said);
         drop(kept);
         self.follow();
         reply
@@ -288,29 +283,32 @@ impl<J: HallName> Hall<J> {
 }
 
 impl<J: HallName> Desk<J> {
-    /// Takes in all entries that are found. It waits for nobody.
+    /// Applies all entries that are set. It never blocks.
     pub fn see(&mut self, hall: &Hall<J>) -> Result<(), Fault>
         ensures state { TakesIn self.old.state self.new.state }
+        ensures all { OnOk result (self.new.at ≡ length self.new.state.seen) }
         ensures told { OnOk result (pending self.new ≡ []) }
         ensures fault { IfErr result (λ f. f ≡ Fault.OutOfMemory) }
     {
         self.see_to(hall, u32::MAX)
     }
 
-    /// Takes in the entries that are found, none after the `most`-th. What it has seen of those stays. It
-    /// waits for nobody.
+    /// Applies the entries that are set, but none after the `most`-th. It does not forget entries that it has seen. It
+    /// never blocks.
     pub fn see_to(&mut self, hall: &Hall<J>, most: u32) -> Result<(), Fault>
         ensures state { TakesIn self.old.state self.new.state }
         ensures most { length self.new.state.seen ≤ max (length self.old.state.seen) most }
+        ensures all { OnOk result (self.new.at ≡ length self.new.state.seen) }
         ensures told { OnOk result (pending self.new ≡ []) }
         ensures fault { IfErr result (λ f. f ≡ Fault.OutOfMemory) }
     {
-        self.take_in_to(hall.alloc, &hall.row, most)?;
+        self.extend_to(&hall.row, most);
+        self.catch_up(hall.alloc, &hall.row)?;
         Ok(())
     }
 
-    /// Answers what a line says by exactly what it has seen. A line that asks nothing is not understood. It waits for
-    /// nobody.
+    /// Answers a line by exactly the entries that the desk has seen. A line that does not ask is not understood. It
+    /// never blocks.
     pub fn ask(&mut self, hall: &Hall<J>, said: &Parsed) -> Result<Answer, Fault>
         ensures same { self.new.state ≡ self.old.state }
         ensures told { OnOk result (pending self.new ≡ []) }
@@ -321,9 +319,9 @@ impl<J: HallName> Desk<J> {
         Ok(answer)
     }
 
-    /// Answers as [`Desk::ask`], where the guide searches by `workers` threads, which pass the gate with
-    /// each room; the caller's thread is the first (see [`mud_search::labels`]). It waits only for
-    /// those, and ends if the gate lets all pass.
+    /// Answers like [`Desk::ask`], but the guide searches with `workers` threads, which pass the gate with each room;
+    /// the caller's thread is the first (see [`mud_search::labels`]). It waits only for those threads, and returns if
+    /// the gate lets all pass.
     pub fn ask_with<R: Threads + Wait + Sync, G: Gate + Sync>(
         &mut self,
         rt: &R,

@@ -1,4 +1,4 @@
-//! What lies under the locks of a hall.
+//! The state under the locks of a hall.
 
 ghost use Rattle.std.specs.Prelude.{◌≡◌, ◌≤◌, ◌<◌, ◌+◌, ◌↔◌, IfOk, IsErr, IfErr};
 ghost use mathlib.Core.List.{IsPrefix};
@@ -14,10 +14,10 @@ use mud_row::{Pass, Replica, Row};
 use std::alloc::{AllocError, Global};
 use std::marker::{Model, PhantomData};
 
-// The most entries that are taken at once into the world that new desks copy.
+// The greatest number of entries that are applied at once to the replica that new desks copy.
 const MOST_FOLLOWED: u32 = 16;
 
-/// How many desks were given, and what was loaded. A contract sees the number.
+/// The number of desks given, and the loaded entries. A contract sees the number.
 #[derive(Drop)]
 pub struct Kept<J: HallName> {
     given: u32,
@@ -37,7 +37,7 @@ impl<J: HallName> Model for Kept<J> {
 }
 
 impl<J: HallName> Kept<J> {
-    // At first no desk was given.
+    // Returns the initial state: no desk was given.
     pub(crate) fn new(start: Pass) -> Kept<J>
         requires row { start.row ≡ J.cells }
         requires list { start.list ≡ J.loaded }
@@ -50,7 +50,7 @@ impl<J: HallName> Kept<J> {
         }
     }
 
-    // How many desks were given.
+    // Returns the number of desks given.
     pub(crate) fn given_count(&self) -> u32
         ensures given { result ≡ self.now }
         ensures few { result ≤ MOST_DESKS }
@@ -58,7 +58,7 @@ impl<J: HallName> Kept<J> {
         self.given
     }
 
-    // A reader that has read what was loaded.
+    // Returns a reader that has read the loaded entries.
     pub(crate) fn reader(&mut self, alloc: Global) -> Result<Reader<J>, AllocError>
         ensures { IfOk result (λ r. r ≡ J.loaded) }
     {
@@ -69,7 +69,7 @@ impl<J: HallName> Kept<J> {
         })
     }
 
-    // The desk of the next number, with this replica.
+    // Returns the desk with the next number and this replica.
     pub(crate) fn desk(&mut self, alloc: Global, replica: Box<Replica>) -> Result<Desk<J>, Fault>
         requires row { replica.value.row ≡ J.cells }
         requires loaded { IsPrefix J.loaded replica.value.list }
@@ -86,8 +86,8 @@ impl<J: HallName> Kept<J> {
     }
 }
 
-/// What the hall itself knows, which begins with what was loaded: new desks copy it. A contract sees how many entries
-/// it knows.
+/// The hall's own replica, which new desks copy. It begins with the loaded entries. A contract sees the number of
+/// entries that it knows.
 #[derive(Drop)]
 pub struct Fresh<J: HallName> {
     known: Replica,
@@ -106,7 +106,7 @@ impl<J: HallName> Model for Fresh<J> {
 }
 
 impl<J: HallName> Fresh<J> {
-    // It knows what the replica knows.
+    // Returns the hall's own replica.
     pub(crate) fn new(known: Replica) -> Fresh<J>
         requires row { known.row ≡ J.cells }
         requires loaded { IsPrefix J.loaded known.list }
@@ -117,8 +117,8 @@ impl<J: HallName> Fresh<J> {
         }
     }
 
-    // Comes to know what is found, and takes some of it into its world: so it is never far behind. What it has no
-    // memory for it takes in later.
+    // Makes all set cells known, and applies some of the entries, so that the replica is never far behind. If an
+    // allocation fails, it applies them later.
     pub(crate) fn follow(&mut self, row: &Row)
         requires { row.now ≡ J.cells }
     {
@@ -126,7 +126,7 @@ impl<J: HallName> Fresh<J> {
         take_some_in(&mut self.known, row);
     }
 
-    // A copy that knows all that is found, and has it in its world.
+    // Returns a copy that has applied every set cell.
     pub(crate) fn copy(&mut self, alloc: Global, row: &Row) -> Result<Replica, AllocError>
         requires { row.now ≡ J.cells }
         ensures row { IfOk result (λ r. r.row ≡ J.cells) }
@@ -137,7 +137,7 @@ impl<J: HallName> Fresh<J> {
     }
 }
 
-// Takes some of the known entries into the world.
+// Applies some of the known entries to the world.
 fn take_some_in(known: &mut Replica, row: &Row)
     requires { known.old.row ≡ row.now }
     ensures row { known.new.row ≡ known.old.row }

@@ -1,4 +1,4 @@
-//! Laws of the definitions: each contract is a law, and its function does nothing.
+//! Laws of the definitions. Each contract is a law, and its function does nothing.
 
 ghost use Rattle.mud_hall.specs.Laws.{HistoryGoesOn, WalksGo, IsRight};
 ghost use Rattle.mud_hall.specs.Steps.{At, HallStep, Begins, IsRun, Hall, Ask, Makes};
@@ -17,8 +17,8 @@ use mud_chron::laws::{again, no_returns};
 use mud_guide::laws::routes;
 use mud_roads::laws::meeting_cost;
 
-/// In every run of a hall an answer about a journey is right in the world of which it speaks, and
-/// the checker accepts its certificate.
+/// In every run of a hall, an answer about a journey is right in the world of its version, and the checker accepts its
+/// certificate.
 pub fn guide()
     ensures { (capacity : ℕ) (loaded : List Entry) (begin : Hall) → Begins capacity loaded begin
         → (steps : List HallStep) (hall : Hall) → IsRun capacity loaded begin steps hall
@@ -36,13 +36,13 @@ pub fn guide()
     meeting_cost();
 }
 
-/// In every run the history is a legal one, and goes on.
+/// In every run the history is legal, and each later history extends it.
 pub fn going_on()
     ensures { HistoryGoesOn }
 {}
 
-/// From the world of a version a player's changes by the exits of his walk are each legal, and end
-/// where the walk leads.
+/// From the world of a version, a player's changes by the exits of a walk are all legal, and the player ends where the
+/// walk leads.
 pub fn walk()
     ensures { WalksGo }
 {}

@@ -1,4 +1,4 @@
-//! A reader of the history of a hall.
+//! Readers of a hall's history.
 
 ghost use Rattle.std.specs.Prelude.{◌≡◌, ◌≤◌, ◌++◌, length, IfOk};
 ghost use mathlib.Core.List.{IsPrefix};
@@ -15,8 +15,8 @@ use std::alloc::{AllocError, Global};
 use std::marker::{Model, PhantomData};
 use std::sync::Wait;
 
-/// How much of the history of a hall its holder has read. A contract sees the entries. It makes none, and it takes no
-/// lock of the hall to read.
+/// A cursor into the history of a hall. A contract sees the entries read. A reader makes no entries, and takes no lock
+/// of the hall to read.
 #[derive(Drop)]
 pub struct Reader<J: HallName> {
     pub(crate) pass: Pass,
@@ -40,7 +40,7 @@ impl<J: HallName> Model for Reader<J> {
 }
 
 impl<J: HallName> Hall<J> {
-    /// A reader that has read what was loaded. The only error is out of memory.
+    /// Returns a reader that has read the loaded entries. The only error is out of memory.
     pub fn reader<R: Wait>(&self, rt: &R) -> Result<Reader<J>, AllocError>
         ensures { IfOk result (λ r. r ≡ J.loaded) }
     {
@@ -50,7 +50,7 @@ impl<J: HallName> Hall<J> {
 }
 
 impl<J: HallName> Reader<J> {
-    /// How many entries were read.
+    /// Returns the number of entries read.
     pub fn len(&self) -> u32
         ensures len { result ≡ length self.now }
         ensures limit { result ≤ MOST_ENTRIES }
@@ -58,8 +58,8 @@ impl<J: HallName> Reader<J> {
         self.pass.known()
     }
 
-    /// Reads the next entries, at most `most`, as far as they are found. After an error some entries count as read that
-    /// the caller was not given.
+    /// Reads the next set entries, at most `most`. After an error some entries count as read that the caller did not
+    /// get.
     pub fn read(
         &mut self,
         alloc: Global,
@@ -79,7 +79,7 @@ impl<J: HallName> Reader<J> {
         Ok(all)
     }
 
-    /// Comes to know all that any of the desks has seen.
+    /// Advances to the longest prefix that any of the desks has seen.
     pub fn gather(&mut self, desks: &mut Vec<Desk<J>>)
         ensures same { desks.new.items ≡ desks.old.items }
         ensures gathered { IsGathered self.old desks.old.items self.new }

@@ -1,9 +1,9 @@
-//! What a line that acts is answered.
+//! Replies to lines that act.
 
 use mud_rules::Refusal;
 
-/// The reply to a line that acts. Each names the version that it speaks of: how many entries the
-/// history has, with the accepted one.
+/// The reply to a line that acts. It names the version that it is about: the number of entries in the history,
+/// including an accepted one.
 #[derive(Drop)]
 pub enum Reply {
     /// The change is entry `version` of the history.
@@ -11,7 +11,7 @@ pub enum Reply {
         version: u32,
         text: String,
     },
-    /// Who typed the line is another player from now on.
+    /// The desk has another player from now on.
     Became {
         version: u32,
         text: String,

@@ -1,4 +1,4 @@
-//! A desk of one user, with a world of its own.
+//! A single-user desk with a world of its own.
 
 ghost use Rattle.std.specs.Prelude.{◌≡◌, ◌≢◌, ◌≤◌, ◌<◌, ◌++◌, ◌⊎◌, [], length, codes, string_bytes};
 ghost use Rattle.std.specs.Prelude.{Some, None, IfOk, IfErr, IfSome, OnOk, OnErr, IsTrue, vec_len, vec_capacity};
@@ -37,8 +37,8 @@ use std::marker::Model;
 use std::sync::Wait;
 use std::thread::Threads;
 
-/// A desk that nobody else uses: its player, its world, and the entries that led there, all of desk
-/// 1. It is a desk of a hall in all it answers, but that no entry is ever not stored.
+/// A desk without a hall: its player, its world, and the history, all of it made by desk 1. It replies like a desk of a
+/// hall, but an entry is always stored.
 #[derive(Drop)]
 pub struct Solo {
     alloc: Global,
@@ -47,7 +47,7 @@ pub struct Solo {
     history: Vec<Entry>,
     player: u32,
     workers: u32,
-    // what was found to be open to its player, as long as its world and its player stay the same
+    // the traveller of its player, as long as the world and the player stay the same
     traveller: Option<Traveller>,
 }
 
@@ -67,7 +67,7 @@ impl Model for Solo {
 }
 
 impl Solo {
-    /// The desk at first: the opening world, no entry, and the wizard, #1. The history holds at most
+    /// Returns the desk in the initial world, with an empty history and the wizard, #1. The history holds at most
     /// `capacity` entries, up to 65,536. The only error is out of memory.
     pub fn open(alloc: Global, capacity: u32) -> Result<Solo, AllocError>
         requires { capacity ≤ MOST_ENTRIES }
@@ -85,16 +85,16 @@ impl Solo {
         })
     }
 
-    /// From now on the guide searches by this many workers; at first there are none, and only the
-    /// caller's thread searches. The answers are the same.
+    /// Sets the number of workers that the guide uses. Initially there are none, and only the caller's thread searches.
+    /// The answers do not depend on it.
     pub fn set_workers(&mut self, workers: u32)
         ensures { self.new ≡ self.old }
     {
         self.workers = workers;
     }
 
-    /// Replies to what a line says, as `Hall::act`. A change is made, or it is `HistoryFull`; after a fault the desk is
-    /// as it was.
+    /// Acts on a line, like `Hall::act`. A change is made, or the error is `HistoryFull`; after a fault the desk is
+    /// unchanged.
     pub fn act(&mut self, said: &Parsed) -> Result<Reply, Fault>
         ensures capacity { self.new.capacity ≡ self.old.capacity }
         ensures replies { Replies self.old.capacity self.old.state (line_of said.now) (reply_shown result)
@@ -125,7 +125,7 @@ impl Solo {
         }
     }
 
-    // What is decided of what a line says.
+    // Decides a line.
     fn verdict(&self, said: &Parsed) -> Result<Verdict, AllocError>
         ensures decision { IfOk result (λ v. v
             ≡ verdict_on self.now.state.seen self.now.state.player (line_of said.now)) }
@@ -134,17 +134,17 @@ impl Solo {
         decide(self.alloc, &self.world, Some(self.player), said)
     }
 
-    // How many changes were accepted.
+    // Returns the number of accepted changes.
     fn version(&self) -> u32
         ensures version { result ≡ length self.now.state.seen }
         ensures limit { result ≤ MOST_ENTRIES }
     {
-        // for the prover: reading the field says that the history has at most 65,536 entries
+        // for the prover: reading the field shows that the history has at most 65,536 entries
         let _known = self.capacity;
         self.history.len() as u32
     }
 
-    // A player who has the name sits down.
+    // Gives the desk to an existing player.
     fn seat(&mut self, player: u32)
         requires { IsLawful (world_after self.old.state.seen) self.old.state.player (Verdict.Become player) }
         ensures capacity { self.new.capacity ≡ self.old.capacity }
@@ -153,7 +153,7 @@ impl Solo {
         self.player = player;
     }
 
-    // Makes a change, and keeps it.
+    // Makes a change, and stores it.
     fn store(&mut self, change: Change) -> Result<Reply, Fault>
         requires { IsLawful (world_after self.old.state.seen) self.old.state.player (Verdict.Change change) }
         ensures capacity { self.new.capacity ≡ self.old.capacity }
@@ -166,7 +166,7 @@ impl Solo {
         Ok(Reply::Accepted { version, text })
     }
 
-    // What is replied to a change, where the history takes one more.
+    // Returns the reply to a change, if the history has room for one more.
     fn text(&self, change: &Change) -> Result<String, Fault>
         ensures text { IfOk result
             (λ text. string_bytes text ≡ reply_text (world_after self.now.state.seen) change.now) }
@@ -180,7 +180,7 @@ impl Solo {
         Ok(reply_text(self.alloc, &self.world, change)?)
     }
 
-    // Makes a change, and keeps it as the next entry.
+    // Makes a change, and stores it as the next entry.
     fn keep(&mut self, change: Change) -> Result<(), AllocError>
         requires room { length self.old.state.seen < self.old.capacity }
         requires lawful { IsLawful (world_after self.old.state.seen) self.old.state.player (Verdict.Change change) }
@@ -195,8 +195,7 @@ impl Solo {
         Ok(())
     }
 
-    /// Answers what a line says, as `Desk::ask_with` at an open gate. What is open to its player is kept for the next
-    /// route.
+    /// Answers a line, like `Desk::ask_with` with an open gate. The traveller of its player is kept for the next route.
     pub fn ask<R: Threads + Wait + Sync>(
         &mut self,
         rt: &R,
@@ -218,7 +217,7 @@ impl Solo {
         }
     }
 
-    // The answer to the question about the history.
+    // Returns the answer to the question for the history.
     fn told_history(&self) -> Result<Answer, AllocError>
         ensures version { IfOk result (λ a. a.version ≡ length self.now.state.seen) }
         ensures text { IfOk result
@@ -232,7 +231,7 @@ impl Solo {
         })
     }
 
-    /// The lines that it was told: none, for nobody else is there. It takes no memory.
+    /// Returns its notices: none, because there are no other players. It does not allocate.
     pub fn take_told(&mut self) -> Vec<String>
         ensures same { self.new ≡ self.old }
         ensures none { result.items ≡ [] }
@@ -242,7 +241,7 @@ impl Solo {
     }
 }
 
-// Makes a change in the world, once the history has room for it.
+// Makes a change in the world, after the history has room for it.
 fn apply(history: &mut Vec<Entry>, world: &mut World, change: &Change) -> Result<(), AllocError>
     requires { refusal world.old change.now ≡ None }
     ensures items { history.new.items ≡ history.old.items }
@@ -254,8 +253,8 @@ fn apply(history: &mut Vec<Entry>, world: &mut World, change: &Change) -> Result
     world.apply(change)
 }
 
-// Answers what a line says at the version of a world; nothing where it asks for the history. What is open to a player
-// who asks for a route is kept in `traveller`.
+// Answers a line at the version of a world, and returns `None` if the line asks for the history. The traveller of a
+// player who asks for a route is kept in `traveller`.
 fn respond<R: Threads + Wait + Sync>(
     by: &Workers<'_, R, OpenGate>,
     alloc: Global,

@@ -1,4 +1,4 @@
-//! Answers that are texts of lines: a history's, and a certificate's.
+//! Answers that consist of lines: a history's, or a certificate's.
 
 ghost use Rattle.std.specs.Prelude.{◌≡◌, ◌≤◌, ◌++◌, [], ◌∷◌, List, ℕ, IfOk, codes, length, string_bytes};
 ghost use Rattle.mud_world.specs.declared.limits.TheConstants.{MOST_ENTRIES};
@@ -12,7 +12,7 @@ use mud_chron::{Entry, write_history};
 use mud_row::{Replica, Row};
 use std::alloc::{AllocError, Global};
 
-/// The answer to `@history`: the word, and the lines of the history text, the last without its end.
+/// Returns the answer to `@history`: the word, and the lines of the history text, the last without its end.
 pub(crate) fn history_answer(alloc: Global, history: &[Entry]) -> Result<String, AllocError>
     requires { length history.now ≤ MOST_ENTRIES }
     ensures { IfOk result (λ text. string_bytes text ++ codes "\n" ≡ codes "history\n" ++ written_text history.now) }
@@ -22,8 +22,8 @@ pub(crate) fn history_answer(alloc: Global, history: &[Entry]) -> Result<String,
     Ok(without_last_line_end(text))
 }
 
-/// The answer to `@history`, written from the entries that a replica knows. They are not copied, and the replica stays
-/// as it was.
+/// Returns the answer to `@history`, written from the entries that a replica knows. They are not copied, and the
+/// replica is unchanged.
 pub(crate) fn known_answer(
     alloc: Global,
     row: &Row,
@@ -39,7 +39,7 @@ pub(crate) fn known_answer(
     Ok(without_last_line_end(text))
 }
 
-/// The answer to `proof`: the word, and the lines of the certificate, the last without its end.
+/// Returns the answer to `proof`: the word, and the lines of the certificate, the last without its end.
 pub(crate) fn proof_answer(alloc: Global, cert: &Cert) -> Result<String, AllocError>
     ensures { IfOk result (λ text. string_bytes text ++ codes "\n" ≡ codes "proof\n" ++ cert_text cert.now) }
 {
@@ -50,7 +50,7 @@ pub(crate) fn proof_answer(alloc: Global, cert: &Cert) -> Result<String, AllocEr
     Ok(without_last_line_end(text))
 }
 
-// The text without the LF that ends its last line.
+// Returns the text without the LF that ends its last line.
 fn without_last_line_end(text: String) -> String
     requires { (front : List ℕ) × (string_bytes text ≡ front ++ LF ∷ []) }
     ensures { string_bytes result ++ codes "\n" ≡ string_bytes text }

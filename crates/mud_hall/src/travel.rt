@@ -1,4 +1,4 @@
-//! Who asks for a route, with what is open to him.
+//! Travellers, computed once for each world and player.
 
 ghost use Rattle.std.specs.Prelude.{◌≡◌, Some, IfSome, IsTrue};
 ghost use Rattle.mud_world.specs.State.{is_player};
@@ -9,7 +9,7 @@ use mud_rules::{Journey, Query, Verdict};
 use mud_world::World;
 use std::alloc::{AllocError, Global};
 
-/// Finds what is open to the player who asks for a route, unless it is known. Where memory is refused, what was known
+/// Computes the traveller of the player who asks for a route, unless it is known. If an allocation fails, the known one
 /// stays.
 pub(crate) fn find_traveller(
     alloc: Global,
@@ -31,7 +31,7 @@ pub(crate) fn find_traveller(
     Ok(())
 }
 
-/// The traveller, if he is this player.
+/// Returns the traveller, if it is this player.
 pub(crate) fn traveller_of(traveller: &Option<Traveller>, player: u32) -> Option<&Traveller>
     ensures { IfSome result (λ t. (traveller.now ≡ Some t.now) × (t.now.player ≡ player)) }
 {
@@ -41,7 +41,7 @@ pub(crate) fn traveller_of(traveller: &Option<Traveller>, player: u32) -> Option
     }
 }
 
-// Whether a line asks for a route, or for the proof of one.
+// Returns whether a line asks for a route, or for the proof of one.
 fn asks_route(verdict: &Verdict) -> bool {
     match verdict {
         Verdict::Ask(Query::Journey(Journey::Route { .. })) => true,

@@ -1,10 +1,10 @@
-//! Histories that are loaded from files.
+//! Loads histories from files.
 //!
-//! [`load`] reads the file and its text. [`Unloaded`] says why a hall does not go on from a file: because of
-//! the file, of its text, or of the hall itself, which answers a `LoadFault`.
+//! [`load`] reads the file and its text. [`Unloaded`] is the reason why a hall does not continue a file: a fault of the
+//! file, of its text, or of the hall itself, which returns a `LoadFault`.
 //!
 //! Memory: the file is read whole before its text is, and dropped once its entries are made. The call blocks on the
-//! file and begins no thread.
+//! file and starts no thread.
 #![tactic(auto)]
 
 mod reading;

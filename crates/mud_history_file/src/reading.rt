@@ -1,11 +1,11 @@
-//! A history's file.
+//! Reads the file of a history.
 
 use crate::unloaded::Unloaded;
 use mud_chron::{Entry, read_history};
 use std::fs;
 use std::rt::Files;
 
-/// The entries of the history in the file of this name. The file is read whole before its text is.
+/// Returns the entries of the history in the file with this name. It reads the whole file before it reads the text.
 pub fn load<R: Files + AllocGlobal>(rt: &R, name: &str) -> Result<Vec<Entry>, Unloaded> {
     let text = match fs::read(rt, name) {
         Ok(text) => text,

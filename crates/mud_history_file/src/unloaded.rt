@@ -1,14 +1,14 @@
-//! Why a hall does not go on from a file.
+//! The reasons why a hall does not continue a file.
 
 use mud_chron::ChronFault;
 use mud_hall::LoadFault;
 use std::io::{self, ErrorKind};
 use thiserror::Error;
 
-/// Why a hall does not go on from a file.
+/// The reason why a hall does not continue a file.
 #[derive(Clone, Copy, Debug, PartialEq, Eq, Error)]
 pub enum Unloaded {
-    /// Memory ran out.
+    /// An allocation failed.
     #[error("out of memory")]
     OutOfMemory,
     /// The file can't be read.
@@ -20,7 +20,7 @@ pub enum Unloaded {
     /// This line of the text, counted from 1, is bad.
     #[error("history line {0}")]
     Line(usize),
-    /// This entry, counted from 1, is not legal where it stands.
+    /// This entry, counted from 1, is illegal where it occurs.
     #[error("history change {0}")]
     Change(usize),
     /// The text has more than 65,536 entries.
@@ -29,7 +29,7 @@ pub enum Unloaded {
     /// The text ends before its last line does.
     #[error("history without end")]
     NoEnd,
-    /// There are more entries than the hall has room for.
+    /// The hall has room for fewer entries.
     #[error("over capacity")]
     OverCapacity,
     /// The hall did not take an entry.
@@ -38,7 +38,7 @@ pub enum Unloaded {
 }
 
 impl Unloaded {
-    /// Why a file was not read.
+    /// Returns the reason why a file was not read.
     pub fn of_file(error: &io::Error) -> Unloaded {
         match error.kind() {
             ErrorKind::OutOfMemory => Unloaded::OutOfMemory,
@@ -46,7 +46,7 @@ impl Unloaded {
         }
     }
 
-    /// Why a text is no history.
+    /// Returns the reason why a text is not a history.
     pub fn of_text(fault: ChronFault) -> Unloaded {
         match fault {
             ChronFault::OutOfMemory => Unloaded::OutOfMemory,
@@ -58,7 +58,7 @@ impl Unloaded {
         }
     }
 
-    /// Why a hall does not go on from entries.
+    /// Returns the reason why a hall does not continue these entries.
     pub fn of_entries(fault: &LoadFault) -> Unloaded {
         match fault {
             LoadFault::OutOfMemory => Unloaded::OutOfMemory,

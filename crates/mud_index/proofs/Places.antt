@@ -1,4 +1,4 @@
--- Where a number stands in a rising list.
+-- The places of numbers in a sorted list.
 use Rattle.std.proofs.Common.{◌≡◌, ℕ, zero, suc, ◌+◌, ◌<◌, ◌≤◌, true, false, cond, ◌||◌, not, List, [], ◌∷◌, length}
 use Rattle.std.proofs.Common.{◌-◌, ◌++◌, ◌∙◌, get_or, refl, sym, ap, inl, inr, arith}
 use Rattle.std.specs.Prelude.{nat_eq, Ok, Err, is_ok}
@@ -11,7 +11,7 @@ use Rattle.std.proofs.lemmas.List.Edits.{insert_end, length-remove, get_or-remov
 use Rattle.std.proofs.lemmas.List.Sorted.{searched}
 use Rattle.mud_index.specs.Rising.{insert, without}
 
--- after all that aren't above it, and before all that are
+-- after all that are not above it, and before all that are
 pub placed : (n : ℕ) (xs : List ℕ) (i : ℕ) → i ≤ length xs → ((k : ℕ) → k < i → get_or xs k 0 ≤ n)
     → ((k : ℕ) → i ≤ k → k < length xs → n < get_or xs k 0)
     → insert_at xs i n ≡ insert n xs
@@ -27,7 +27,7 @@ placed n (x ∷ xs) (suc i) at low high =
     (placed n xs i (omega arith) (λ k before. low (suc k) (omega arith))
     (λ k behind within. high (suc k) (omega arith) (omega arith))))
 
--- at the end, where the last is not above it
+-- at the end, if the last number is not above it
 pub at_end : (n : ℕ) (xs : List ℕ) → IsNonDecreasing xs → ((d : ℕ) → 0 < length xs → get_or xs (length xs - 1) d ≤ n)
     → xs ++ n ∷ [] ≡ insert n xs
 at_end n xs rising above =
@@ -37,9 +37,9 @@ at_end n xs rising above =
     omega (arith, rising k (length xs - 1) 0 (omega arith) (omega arith), above 0 (omega arith)))
     (λ k behind within. absurd (omega arith))
 
--- ---- taken out
+-- ---- removal
 
--- one that is the number
+-- the number at the place is the one to remove
 pub without-remove : (n : ℕ) (xs : List ℕ) (i : ℕ) → i < length xs → get_or xs i 0 ≡ n
     → without n (remove xs i) ≡ without n xs
 without-remove n [] i within is = absurd (omega arith)
@@ -66,9 +66,9 @@ rising-remove xs i within up j k d order last =
           ]
     ]
 
--- ---- looked for
+-- ---- search
 
--- none of these is the number
+-- none of these equals the number
 abbrev pub AreOther : ℕ → List ℕ → Type 0
 AreOther n xs = (k : ℕ) → k < length xs → get_or xs k 0 ≡ n → ⊥
 

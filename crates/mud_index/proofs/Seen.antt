@@ -1,4 +1,4 @@
--- The lists as they are seen, by those in memory.
+-- The model of the lists, from the lists in memory.
 use Rattle.std.proofs.Common.{◌≡◌, ◌∙◌, ℕ, zero, suc, ◌+◌, ◌<◌, ◌≤◌, Bool, true, false, cond, List, [], ◌∷◌, length}
 use Rattle.std.proofs.Common.{Some, get_or, set, refl, sym, ap, arith}
 use Rattle.std.specs.Prelude.{nat_eq, if◌then◌else◌}
@@ -37,7 +37,7 @@ pub same_seen : (xs ys : List (List ℕ)) → ((n : ℕ) → get_or ys n [] ≡ 
     → AreSame (enumerate_from 0 xs) (enumerate_from 0 ys)
 same_seen xs ys same = λ n. list_placed ys n ∙ same n ∙ sym (list_placed xs n)
 
--- the list at the holder's place is changed
+-- the list at the holder's place changes
 pub changed_seen : (xs : List (List ℕ)) (h : ℕ) (f : List ℕ → List ℕ) → h < length xs
     → AreChanged (λ n. nat_eq n h) f (enumerate_from 0 xs) (enumerate_from 0 (set xs h (f (get_or xs h []))))
 changed_seen xs h f within = λ n.
@@ -54,14 +54,14 @@ changed_seen xs h f within = λ n.
     ∙ sym (list_placed xs n)
     ∙ sym (ap (λ t. if t then f (list_at (enumerate_from 0 xs) n) else list_at (enumerate_from 0 xs) n) past))
 
--- the same of lists that are equal place by place
+-- likewise for lists that are equal place by place
 pub changed_later : (xs ys : List (List ℕ)) (h : ℕ) (f : List ℕ → List ℕ)
     → ((n : ℕ) → get_or ys n [] ≡ get_or xs n []) → h < length ys
     → AreChanged (λ n. nat_eq n h) f (enumerate_from 0 xs) (enumerate_from 0 (set ys h (f (get_or ys h []))))
 changed_later xs ys h f same within = λ n.
     changed_seen ys h f within n ∙ ap (λ v. if nat_eq n h then f v else v) (same_seen xs ys same n)
 
--- a holder without a place has the empty list, of which nothing changes
+-- a holder without a place has the empty list, and nothing in it changes
 pub unchanged_past : (xs : List (List ℕ)) (h m : ℕ) → length xs ≤ h
     → AreChanged (λ n. nat_eq n h) (without m) (enumerate_from 0 xs) (enumerate_from 0 xs)
 unchanged_past xs h m past = λ n.
@@ -81,7 +81,7 @@ zipped C same [] (y ∷ ys) all = absurd all
 zipped C same (x ∷ xs) [] all = absurd all
 zipped C same (x ∷ xs) (y ∷ ys) all = λ i. same x y all.0 i ∷ zipped C same xs ys all.1 i
 
--- what is there already is put there again
+-- inserting a number that is there already changes nothing
 pub put-there : (l : List (ℕ × List ℕ)) (h m : ℕ) → list_any (nat_eq m) (list_at l h) ≡ true
     → AreChanged (λ n. nat_eq n h) (put m) l l
 put-there l h m there = λ n.

@@ -1,4 +1,4 @@
--- Owners as they are seen, by the map in memory.
+-- The model of the owners, from the map in memory.
 use Rattle.std.proofs.Common.{◌≡◌, ◌∙◌, ℕ, Bool, true, false, cond, ◌||◌, List, [], ◌∷◌, Option, Some, Vec, Global}
 use Rattle.std.proofs.Common.{refl, sym, ap}
 use Rattle.std.specs.Prelude.{map, bytes_eq, nat_eq, if◌then◌else◌}
@@ -31,7 +31,7 @@ same_text (a ∷ x) (b ∷ y) e =
     let parts = and_parts (nat_eq a b) (bytes_eq x y) e in
     λ i. eqb-true a b parts.0 i ∷ same_text x y parts.1 i
 
--- one text has another owner, or none, and the others keep theirs
+-- one text gets another owner, or loses its owner, and the others keep theirs
 pub changed_owner : (es fs : List (Text × ℕ)) (x : List ℕ) (w : Option ℕ)
     → lookup (λ (k : Text). bytes_eq x k.items) fs ≡ w → KeepsOthers same (λ k. bytes_eq x k.items) es fs
     → (t : List ℕ) → owner_of (seen_of fs) t ≡ cond (bytes_eq t x) w (owner_of (seen_of es) t)
@@ -62,14 +62,14 @@ cloned D C same_list same_key (e ∷ es) (f ∷ fs) all =
 
 -- ---- one text after the other
 
--- once the texts that are left are set, all are
+-- once the remaining texts are set, all are
 abbrev pub AreLeft : List (List ℕ) → List (List ℕ) → Option ℕ → List (List ℕ × ℕ) → List (List ℕ × ℕ) → Type 0
 AreLeft left all owner old new =
     (t : List ℕ)
     → cond (list_any (bytes_eq t) left) owner (owner_of new t)
     ≡ cond (list_any (bytes_eq t) all) owner (owner_of old t)
 
--- the next one is set
+-- one more text is set
 pub left-step : (x : List ℕ) (left all : List (List ℕ)) (owner : Option ℕ) (old mid new : List (List ℕ × ℕ))
     → AreLeft (x ∷ left) all owner old mid
     → ((t : List ℕ) → owner_of new t ≡ cond (bytes_eq t x) owner (owner_of mid t)) → AreLeft left all owner old new

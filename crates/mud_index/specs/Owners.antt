@@ -12,7 +12,7 @@ owner_of owners text = lookup (bytes_eq text) owners
 abbrev pub is_lower_of : List (List ℕ) → List ℕ → Bool
 is_lower_of texts t = list_any (λ a. bytes_eq t (str_to_ascii_lowercase a)) texts
 
--- in lower case the new texts have this owner, other old ones none, and each other text has the owner that it had
+-- in lower case the new texts have this owner, the other old ones have none, and each other text keeps its owner
 abbrev pub AreOwnersPassed : List (List ℕ) → List (List ℕ) → ℕ → List (List ℕ × ℕ) → List (List ℕ × ℕ) → Type 0
 AreOwnersPassed olds news owner old new =
     (t : List ℕ) → owner_of new t

@@ -1,9 +1,8 @@
-//! Rising lists of numbers, one for each number, and owners of texts.
+//! Sorted lists of numbers, one for each holder, and a case-insensitive map from texts to owners.
 //!
-//! [`Lists`] has for each number a rising list of numbers: what lies in each object, the exits that
-//! leave each room, and so on. A number without an entry has the empty list, so growth that is
-//! refused leaves equal lists. [`Owners`] is a map from a text, ASCII case ignored, to a number: the
-//! player who has the name.
+//! [`Lists`] has a sorted list of numbers for each number: the contents of each object, the exits of each room, and so
+//! on. A number without an entry has the empty list, so a failed allocation leaves equal lists. [`Owners`] maps a text,
+//! ignoring ASCII case, to a number: the player with that name.
 #![tactic(auto)]
 
 mod lists;

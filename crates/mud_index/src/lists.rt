@@ -1,4 +1,4 @@
-//! A rising list for each number.
+//! A sorted list for each number.
 
 ghost use Rattle.std.specs.Prelude.{◌≡◌, ◌<◌, ◌≤◌, [], length, nat_eq, slice_index_or, slice_set, OnOk, OnErr, IfOk, ℕ};
 ghost use Rattle.mud_index.specs.Rising.{insert, put, without};
@@ -9,17 +9,17 @@ use crate::numbers::Rising;
 use std::alloc::{AllocError, Global};
 use std::marker::Model;
 
-/// A rising list of numbers for each number. A contract sees each holder with its list; which holders have an entry
-/// says nothing: `list_at` is what is asked.
+/// A sorted list of numbers for each number, its holder. A contract sees each holder with its list. Only `list_at`
+/// matters, and not which holders have an entry.
 ///
-/// The list of number n stands at place n, so that nothing is searched for. The holders are to be small numbers: as
-/// many places are kept as the highest of them asks.
+/// The list of number n is at index n, so no search is needed. Holders should be small numbers, because the table is as
+/// long as the greatest of them.
 pub struct Lists {
     alloc: Global,
     lists: Vec<Rising>,
 }
 
-// Written out: where lists go, a proof then has one step, and not one for each part of them.
+// Written out, so that a proof about dropping `Lists` has one step instead of one for each part.
 impl Drop for Lists {
     fn drop(self) {
         let Lists { alloc: _, lists } = self;
@@ -36,7 +36,7 @@ impl Model for Lists {
     ghost view = { λ a. enumerate_from 0 a.lists.items };
 }
 
-// The list at a place; the empty list, where there is no such place.
+// Returns the list at a place, or the empty list if there is no such place.
 fn list_of(lists: &[Rising], at: usize) -> &[u32]
     ensures { result.now ≡ slice_index_or lists.now at [] }
 {
@@ -46,7 +46,7 @@ fn list_of(lists: &[Rising], at: usize) -> &[u32]
     }
 }
 
-// Whether a number is in the list at a place.
+// Returns whether a number is in the list at a place.
 fn has_at(lists: &[Rising], at: usize, number: u32) -> bool
     ensures { result ≡ list_any (nat_eq number) (slice_index_or lists.now at []) }
 {
@@ -56,7 +56,7 @@ fn has_at(lists: &[Rising], at: usize, number: u32) -> bool
     }
 }
 
-// Empty lists at the end, until there are so many.
+// Appends empty lists up to this length.
 fn fill(lists: &mut Vec<Rising>, alloc: Global, len: usize) -> Result<(), AllocError>
     ensures same { (n : ℕ) → slice_index_or lists.new.items n [] ≡ slice_index_or lists.old.items n [] }
     ensures len { OnOk result (len ≤ length lists.new.items) }
@@ -67,7 +67,7 @@ fn fill(lists: &mut Vec<Rising>, alloc: Global, len: usize) -> Result<(), AllocE
     Ok(())
 }
 
-// Puts a number into the list at a place, or changes nothing.
+// Inserts a number into the list at a place, or changes nothing.
 fn insert_at(lists: &mut Vec<Rising>, at: usize, number: u32) -> Result<(), AllocError>
     requires { at < length lists.old.items }
     ensures ok { OnOk result (lists.new.items
@@ -77,7 +77,7 @@ fn insert_at(lists: &mut Vec<Rising>, at: usize, number: u32) -> Result<(), Allo
     lists[at].insert(number)
 }
 
-// Takes a number out of the list at a place.
+// Removes a number from the list at a place.
 fn remove_at(lists: &mut Vec<Rising>, at: usize, number: u32)
     requires { at < length lists.old.items }
     ensures { lists.new.items
@@ -87,7 +87,7 @@ fn remove_at(lists: &mut Vec<Rising>, at: usize, number: u32)
 }
 
 impl Lists {
-    /// No lists: each number has the empty one.
+    /// Returns empty lists for all numbers.
     pub fn new(alloc: Global) -> Lists
         ensures { (n : ℕ) → list_at result n ≡ [] }
     {
@@ -97,14 +97,14 @@ impl Lists {
         }
     }
 
-    /// The list of the holder; the empty list, where it has none.
+    /// Returns the holder's list, or the empty list if it has none.
     pub fn get(&self, holder: u32) -> &[u32]
         ensures { result.now ≡ list_at self.now holder }
     {
         list_of(&self.lists, holder as usize)
     }
 
-    /// Puts a number into the list of the holder, or changes no list.
+    /// Inserts a number into the holder's list. An error changes no list.
     pub fn insert(&mut self, holder: u32, number: u32) -> Result<(), AllocError>
         ensures ok { OnOk result (AreChanged (λ n. nat_eq n holder) (insert number) self.old self.new) }
         ensures err { OnErr result (AreSame self.old self.new) }
@@ -114,7 +114,7 @@ impl Lists {
         insert_at(&mut self.lists, at, number)
     }
 
-    /// Puts a number into the list of the holder, where it isn't yet, or changes no list.
+    /// Inserts a number into the holder's list unless it is there already. An error changes no list.
     pub fn put(&mut self, holder: u32, number: u32) -> Result<(), AllocError>
         ensures ok { OnOk result (AreChanged (λ n. nat_eq n holder) (put number) self.old self.new) }
         ensures err { OnErr result (AreSame self.old self.new) }
@@ -125,14 +125,14 @@ impl Lists {
         self.insert(holder, number)
     }
 
-    /// Whether the number is in the list of the holder.
+    /// Returns whether the number is in the holder's list.
     pub fn has(&self, holder: u32, number: u32) -> bool
         ensures { result ≡ list_any (nat_eq number) (list_at self.now holder) }
     {
         has_at(&self.lists, holder as usize, number)
     }
 
-    /// Takes a number out of the list of the holder. The list keeps its room for the next one.
+    /// Removes a number from the holder's list. The list keeps its capacity.
     pub fn remove(&mut self, holder: u32, number: u32)
         ensures { AreChanged (λ n. nat_eq n holder) (without number) self.old self.new }
     {
@@ -142,7 +142,7 @@ impl Lists {
         }
     }
 
-    /// Equal lists, that change by themselves from then on.
+    /// Returns an independent copy.
     pub fn copy(&self) -> Result<Lists, AllocError>
         ensures { IfOk result (λ lists. lists ≡ self.now) }
     {

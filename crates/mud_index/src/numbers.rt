@@ -1,4 +1,4 @@
-//! Rising lists of numbers.
+//! Sorted lists of numbers.
 
 ghost use Rattle.std.specs.Prelude.{◌≡◌, ◌≤◌, [], ◌∷◌, ◌++◌, length, nat_eq, IsTrue, OnOk, OnErr};
 ghost use Rattle.std.specs.List.{insert as insert_at, list_any};
@@ -8,7 +8,7 @@ ghost use Rattle.mud_index.specs.Rising.{insert, without};
 use std::alloc::{AllocError, Global};
 use std::marker::Model;
 
-/// Numbers of which none is below one before it, so that a number is found by halving. A contract sees their list.
+/// A sorted list of numbers, in which binary search finds a number. A contract sees the list.
 #[derive(Drop)]
 pub(crate) struct Rising {
     numbers: Vec<u32>,
@@ -25,7 +25,7 @@ impl Model for Rising {
     ghost invariant = { λ a. IsNonDecreasing a.numbers.items };
 }
 
-// Where the number goes in a rising list: after all that aren't above it.
+// Returns the place to insert the number in a sorted list: after all that are not above it.
 fn place_for(numbers: &[u32], number: u32) -> usize
     requires { IsNonDecreasing numbers.now }
     ensures within { result ≤ length numbers.now }
@@ -35,7 +35,7 @@ fn place_for(numbers: &[u32], number: u32) -> usize
     numbers.partition_point(|other| *other <= number)
 }
 
-// Whether no number of a rising list is above this one, so that it goes to the end.
+// Returns whether the number belongs at the end of a sorted list.
 fn is_last(numbers: &[u32], number: u32) -> bool
     requires { IsNonDecreasing numbers.now }
     ensures at_end { IsTrue result → numbers.now ++ number ∷ [] ≡ insert number numbers.now }
@@ -47,7 +47,7 @@ fn is_last(numbers: &[u32], number: u32) -> bool
     }
 }
 
-// Takes the number out of a rising list, as often as it is there.
+// Removes all occurrences of the number from a sorted list.
 fn remove_number(numbers: &mut Vec<u32>, number: u32)
     requires { IsNonDecreasing numbers.old.items }
     ensures rising { IsNonDecreasing numbers.new.items }
@@ -59,7 +59,7 @@ fn remove_number(numbers: &mut Vec<u32>, number: u32)
 }
 
 impl Rising {
-    /// No numbers.
+    /// Returns the empty list.
     pub(crate) fn new(alloc: Global) -> Rising
         ensures { result ≡ [] }
     {

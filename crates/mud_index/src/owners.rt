@@ -14,10 +14,10 @@ use indexmap::IndexMap;
 use std::alloc::{AllocError, Global};
 use std::marker::Model;
 
-// The most bytes of a text whose owner is found without going through all.
+// The greatest length of a text whose owner is found by hashing.
 const SHORT: usize = 60;
 
-// The texts in lower case.
+// Returns the texts in lower case.
 fn lower_all(alloc: Global, texts: &[String]) -> Result<Vec<Vec<u8>>, AllocError>
     ensures { IfOk result (λ lower. items_of lower.items
         ≡ map str_to_ascii_lowercase (map string_bytes texts.now)) }
@@ -29,7 +29,7 @@ fn lower_all(alloc: Global, texts: &[String]) -> Result<Vec<Vec<u8>>, AllocError
     Ok(lower)
 }
 
-// Whether the name is the text in lower case.
+// Returns whether the name is the text in lower case.
 fn is_lower(text: &[u8], name: &[u8]) -> bool
     ensures { result ≡ bytes_eq (map to_ascii_lowercase text.now) name.now }
 {
@@ -44,7 +44,7 @@ fn is_lower(text: &[u8], name: &[u8]) -> bool
     true
 }
 
-// Takes the texts out.
+// Removes the texts.
 fn drop_each(owners: &mut IndexMap<Vec<u8>, u32>, texts: &[Vec<u8>])
     ensures owners { AreOwnersSet (items_of texts.now) None (seen_of owners.old.entries) (seen_of owners.new.entries) }
     ensures room { spare owners.old ≤ spare owners.new }
@@ -54,7 +54,7 @@ fn drop_each(owners: &mut IndexMap<Vec<u8>, u32>, texts: &[Vec<u8>])
     }
 }
 
-// Puts the texts in, for which there is room.
+// Inserts the texts. The map has the capacity for them.
 fn put_each(owners: &mut IndexMap<Vec<u8>, u32>, texts: Vec<Vec<u8>>, owner: u32)
     requires { length texts.items ≤ spare owners.old }
     ensures { AreOwnersSet (items_of texts.items) (Some owner)
@@ -68,15 +68,14 @@ fn put_each(owners: &mut IndexMap<Vec<u8>, u32>, texts: Vec<Vec<u8>>, owner: u32
     }
 }
 
-/// For each text its owner, if it has one, as the player who has a name. All texts in it are in
-/// lower case (ASCII), so that it is asked whatever the case. A contract sees the texts with their
-/// owners, in an order that says nothing: `owner_of` is what is asked.
+/// A map from texts to owners, such as from names to players. It stores lower-case (ASCII) texts and ignores case in
+/// lookups. A contract sees the texts with their owners, in an unspecified order: only `owner_of` matters.
 pub struct Owners {
     alloc: Global,
     owners: IndexMap<Vec<u8>, u32>,
 }
 
-// Written out, as that of `Lists` is.
+// Written out for the reason given at `Lists`.
 impl Drop for Owners {
     fn drop(self) {
         let Owners { alloc: _, owners } = self;
@@ -93,7 +92,7 @@ impl Model for Owners {
 }
 
 impl Owners {
-    /// No text has an owner.
+    /// Returns a map in which no text has an owner.
     pub fn new(alloc: Global) -> Owners
         ensures { (text : List ℕ) → owner_of result text ≡ None }
     {
@@ -103,14 +102,14 @@ impl Owners {
         }
     }
 
-    // The owner of a text in lower case.
+    // Returns the owner of a lower-case text.
     fn owner(&self, text: &[u8]) -> Option<u32>
         ensures { result ≡ owner_of self.now text.now }
     {
         self.owners.get(text).copied()
     }
 
-    // The owner of a text in any case, found by going through all.
+    // Returns the owner of a text, ignoring case, by a linear search.
     fn find(&self, text: &[u8]) -> Option<u32>
         ensures { result ≡ owner_of self.now (map to_ascii_lowercase text.now) }
     {
@@ -122,8 +121,8 @@ impl Owners {
         None
     }
 
-    /// The owner of a text, ASCII case ignored. It takes no memory; a text of more than 60 bytes is
-    /// looked for among all.
+    /// Returns the owner of a text, ignoring ASCII case. It does not allocate. A text of more than 60 bytes is found by
+    /// a linear search.
     pub fn get(&self, text: &str) -> Option<u32>
         ensures { result ≡ owner_of self.now (str_to_ascii_lowercase text.now) }
     {
@@ -138,14 +137,14 @@ impl Owners {
         self.owner(part)
     }
 
-    /// The new texts get this owner, the old texts that are no new ones lose theirs, and no others
-    /// change; or, where memory is refused, nothing changes. ASCII case is ignored.
+    /// Gives the new texts this owner. The old texts that are not among the new ones lose theirs, and no others change.
+    /// If an allocation fails, nothing changes. ASCII case is ignored.
     pub fn pass(&mut self, old: &[String], new: &[String], owner: u32) -> Result<(), AllocError>
         ensures ok { OnOk result (AreOwnersPassed (map string_bytes old.now) (map string_bytes new.now) owner
             self.old self.new) }
         ensures err { OnErr result ((text : List ℕ) → owner_of self.new text ≡ owner_of self.old text) }
     {
-        // only players are found by their names, so that most objects come with none
+        // only players are found by name, so most objects come without texts
         if old.is_empty() && new.is_empty() {
             return Ok(());
         }
@@ -157,7 +156,7 @@ impl Owners {
         Ok(())
     }
 
-    /// Equal owners, that change by themselves from then on.
+    /// Returns an independent copy.
     pub fn copy(&self) -> Result<Owners, AllocError>
         ensures { IfOk result (λ owners. owners ≡ self.now) }
     {

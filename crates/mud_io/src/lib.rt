@@ -1,11 +1,11 @@
-//! The two ends of a program: a reader and a writer that tell whether they failed.
+//! The two ends of a program: a reader and a writer that record whether they failed.
 //!
-//! - [`Source`] is read in pieces, or to its end, and tells how often a piece was read of it, whether its end was
-//!   seen, and whether it failed when it was read last.
-//! - [`Sink`] is written to, and tells whether it failed when it was written to last.
+//! - A [`Source`] is read piece by piece, or to its end. It records how many reads were made, whether the end was seen,
+//!   and whether the last read failed.
+//! - A [`Sink`] is written to. It records whether the last write failed.
 //!
-//! There is no other way to what is inside, so a contract of a program can say that it stopped because its reader
-//! or its writer failed.
+//! The inner reader and writer can't be reached in any other way. So the contract of a program can say that it stopped
+//! because its reader or its writer failed.
 //!
 //! ```
 //! let mut source = Source::new(&b"look\n"[..]);

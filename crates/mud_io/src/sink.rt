@@ -1,4 +1,4 @@
-//! A writer that tells whether it failed.
+//! A writer that records whether it failed.
 
 ghost use Rattle.std.specs.Prelude.{◌≡◌, ◌||◌, ℕ, true, false, take, is_err};
 ghost use Rattle.std.specs.Io.KnownBytes.{Appends, WriteAppends};
@@ -8,8 +8,8 @@ ghost use Rattle.mud_io.specs.Streams.{none_passed, new_writer};
 use std::io::{self, Write};
 use std::marker::Model;
 
-/// A writer, with whether it failed when it was written to last. There is no other way to the writer
-/// than these calls, so a contract can say so.
+/// A writer, and whether the last write failed. The writer can be reached only through these calls, so a contract can
+/// rely on the record.
 #[derive(Drop)]
 pub struct Sink<W: Write> {
     inner: W,
@@ -25,7 +25,7 @@ impl<W: Write> Model for Sink<W> {
 }
 
 impl<W: Write> Sink<W> {
-    /// The writer, to which nothing was written yet.
+    /// Wraps a writer that nothing was written to yet.
     pub fn new(inner: W) -> Self
         ensures { result ≡ new_writer (W.contents inner) }
     {
@@ -35,7 +35,7 @@ impl<W: Write> Sink<W> {
         }
     }
 
-    /// Writes once, like `Write::write`. A write that takes no byte of a text that has one has failed too.
+    /// Writes once, like `Write::write`. A write that accepts no byte of a non-empty buffer also counts as a failure.
     pub fn write(&mut self, buf: &[u8]) -> io::Result<usize>
         ensures bound { WritesAtMost result buf.now }
         ensures bytes { WriteAppends self.old.holds self.new.holds result buf.now }
@@ -49,7 +49,8 @@ impl<W: Write> Sink<W> {
         result
     }
 
-    /// Writes the bytes, and answers whether all were taken; else a front of them was, and then a write failed.
+    /// Writes the bytes, and returns whether the writer accepted all of them. If not, a prefix was written, and then a
+    /// write failed.
     pub fn write_all(&mut self, bytes: &[u8]) -> bool
         ensures whole { result ≡ true → Appends self.old.holds self.new.holds bytes.now }
         ensures front { (n : ℕ) × Appends self.old.holds self.new.holds (take n bytes.now) }

@@ -1,4 +1,4 @@
-//! A reader that tells what was read of it.
+//! A reader that records how it was read.
 
 ghost use Rattle.std.specs.Prelude.{◌≡◌, ◌≢◌, ◌↔◌, ◌+◌, ◌<◌, ◌++◌, false, IsTrue, is_ok, is_err, IsErrAnd, IfSome};
 ghost use Rattle.std.specs.Prelude.{OnOk};
@@ -10,12 +10,11 @@ ghost use Rattle.mud_io.specs.Streams.{none_passed, new_reader};
 use std::io::{self, ErrorKind, Read};
 use std::marker::Model;
 
-/// How many pieces may be read of one source.
+/// The greatest number of pieces that may be read from one source.
 pub const MOST_READS: u32 = 16_777_216;
 
-/// A reader, with how often a piece was read of it, whether its end was seen, and whether it failed
-/// when it was read last. There is no other way to the reader than these calls, so a contract can say
-/// so.
+/// A reader with three records: how many pieces were read, whether the end was seen, and whether the last read failed.
+/// The reader can be reached only through these calls, so a contract can rely on the records.
 #[derive(Drop)]
 pub struct Source<R: Read> {
     inner: R,
@@ -38,7 +37,7 @@ impl<R: Read> Model for Source<R> {
 }
 
 impl<R: Read> Source<R> {
-    /// The reader, which was not read yet.
+    /// Wraps a reader that was not read yet.
     pub fn new(inner: R) -> Self
         ensures { result ≡ new_reader (R.remaining inner) }
     {
@@ -50,7 +49,7 @@ impl<R: Read> Source<R> {
         }
     }
 
-    /// Reads a piece, like `Read::read`, up to the first read that sees the end: none comes after it.
+    /// Reads a piece, like `Read::read`. The first read that sees the end is the last one.
     pub fn read(&mut self, buf: &mut [u8]) -> io::Result<usize>
         requires few { self.old.reads < MOST_READS }
         requires no_end { self.old.at_end ≡ false }
@@ -70,8 +69,8 @@ impl<R: Read> Source<R> {
         result
     }
 
-    /// Reads all that is left, like `Read::read_to_end`. Where memory runs out the reader has not failed. After an
-    /// error nothing is promised of `input` or of what is left: callers drop both.
+    /// Reads everything that is left, like `Read::read_to_end`. Running out of memory is not a failure of the reader.
+    /// After an error nothing is promised about `input` or about the rest of the source, and callers drop both.
     pub fn read_to_end(&mut self, input: &mut Vec<u8>) -> io::Result<usize>
         requires no_end { self.old.at_end ≡ false }
         ensures bytes { OnOk result (IfSome self.old.left (λ bytes. input.new.items ≡ input.old.items ++ bytes)) }

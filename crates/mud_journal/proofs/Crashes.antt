@@ -1,4 +1,4 @@
--- What a crash leaves of a journal.
+-- The possible contents of a journal after a crash.
 use Rattle.std.proofs.Common.{◌≡◌, ◌≢◌, ℕ, suc, ◌+◌, ◌≤◌, ◌<◌, ◌⊎◌, inl, inr, List, [], ◌∷◌, ◌++◌, length, take}
 use Rattle.std.proofs.Common.{get_or}
 use Rattle.std.proofs.Common.{refl, sym, ◌∙◌, ap, arith, subst, append_assoc}
@@ -29,13 +29,13 @@ use Rattle.mud_journal.specs.OpenFaults.{IsRefusedAs}
 use Rattle.mud_chron.proofs.BeforeZero.{to_zero, past, behind_text}
 use Rattle.mud_journal.proofs.Finding.{head_text, blank_begins_nothing}
 
--- a front of a text that has at least so many bytes
+-- a prefix of the text, with at least this many bytes
 record IsFront (bytes text : List ℕ) (least : ℕ) : Type 0 where
   n : ℕ
   long : least ≤ n
   cut : bytes ≡ take n text
 
--- a front of a front
+-- a prefix of a prefix
 front_of_front : (m n least : ℕ) (text : List ℕ) → least ≤ m → least ≤ n → IsFront (take m (take n text)) text least
 front_of_front m n least text long longer = go (cases_lt m n)
   where
@@ -49,7 +49,7 @@ front_of_front m n least text long longer = go (cases_lt m n)
 
 -- ---- holes
 
--- bytes of which some are holes, up to the first hole, are a front of what was written
+-- bytes with holes, up to the first hole, are a prefix of the written text
 up_to_hole : (written bytes : List ℕ) → AreThere written bytes → (n : ℕ) × (up_to_zero bytes ≡ take n written)
 up_to_hole written [] there = (0, refl)
 up_to_hole [] (b ∷ bytes) (hole, there) = (0, to_zero b bytes hole)
@@ -72,7 +72,7 @@ first_part synced added are = record {
     each [] all = tt
     each (e ∷ es) all = (all.0, each es all.1)
 
--- what a crash leaves begins with the text of what was synced
+-- the contents after a crash begin with the synced text
 text_front : (bytes : List ℕ) (synced added : List Entry) → IsLeftOf bytes synced added
     → (behind : List ℕ) × (bytes ≡ journal_text Two synced ++ behind)
 text_front bytes synced added h =
@@ -90,7 +90,7 @@ up_front bytes synced added h =
           ∙ append_assoc (head_text Two) (entries_text 1 synced) (up_to_zero b.0),
     )
 
--- what is read of it is a front of the text of what was written, with all of that
+-- the readable part is a prefix of the written text that contains the synced text
 left_front : (bytes : List ℕ) (synced added : List Entry) → IsLeftOf bytes synced added
     → IsFront (up_to_zero bytes) (journal_text Two (synced ++ added)) (length (journal_text Two synced))
 left_front bytes synced added h =
@@ -111,7 +111,7 @@ left_front bytes synced added h =
     let g = front_of_front f.0 h.front.0 (length text) all far h.front.1 in
     record { n = g.n; long = g.long; cut = f.1 ∙ ap (take f.0) h.front.2 ∙ g.cut }
 
--- ---- what is refused
+-- ---- rejected bytes
 
 abbrev IsPlain : List ℕ → Type 0
 IsPlain text = AllByRecursion (λ b. b ≢ LF) text
@@ -141,7 +141,7 @@ plain_end count fits =
       ),
     )
 
--- the last line of a history is a line that is no next entry's
+-- the last line of a history is a line that is not the next entry's
 whole_is_other : (bytes : List ℕ) (entries : List Entry) → SpellsHistory bytes entries
     → HasOtherLine bytes (length entries + 2)
 whole_is_other bytes entries (format, allowed, is) = record {
@@ -204,7 +204,7 @@ always_read bytes synced added (fault.File why) h refused = absurd refused
 always_read bytes synced added fault.NotPlain h refused = absurd refused
 always_read bytes synced added fault.InUse h refused = absurd refused
 
--- a journal that is found, as it is read
+-- a journal that was found, as it is read
 read_as : (bytes : List ℕ) (entries : List Entry) (torn : ℕ) → HasJournal bytes entries torn
     → Recovers (up_to_zero bytes) Two entries (length (journal_text Two entries))
 read_as bytes entries torn j =

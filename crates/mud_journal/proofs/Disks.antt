@@ -1,4 +1,4 @@
--- What calls of a disk leave of a journal.
+-- The effect of a disk's calls on a journal.
 use Rattle.std.proofs.Common.{◌≡◌, ℕ, ◌+◌, List, ◌++◌, length, take}
 use Rattle.std.proofs.Common.{Option, Some, None, sym, ◌∙◌, ap, arith}
 use Rattle.std.proofs.Math.Seq.{take-append-add, take-length, take-append_seam}
@@ -11,21 +11,21 @@ use Rattle.mud_journal.proofs.Grown.{journal_text-append}
 
 -- ---- more entries
 
--- the text of more entries goes on where that of the first ends
+-- the text of more entries continues the text of the first ones
 counted : (es news : List Entry) (count : ℕ) → length es ≡ count
     → journal_text Two (es ++ news) ≡ journal_text Two es ++ entries_text (count + 1) news
 counted es news count is =
     let v : 1 + length es ≡ count + 1 = omega arith in
     journal_text-append Two es news ∙ ap (λ w. journal_text Two es ++ entries_text w news) v
 
--- what is there once the lines of more entries are appended
+-- the contents once the lines of more entries are appended
 grown : (k m : Kept) (es news : List Entry) (count : ℕ) (text : List ℕ) → text ≡ entries_text (count + 1) news
     → length es ≡ count → Grows (Some k) (Some m) text → Holds (Some k) es
     → m.appended ≡ journal_text Two (es ++ news)
 grown k m es news count text is n g h =
     g.0 ∙ ap (λ t. t ++ text) h.0 ∙ ap (λ t. journal_text Two es ++ t) is ∙ sym (counted es news count n)
 
--- a new file of the text that was found and of more lines
+-- a new file with the text that was found and more lines
 pub begun : (k : Option Kept) (had more : List Entry) (count : ℕ) (text bytes : List ℕ) → length had ≡ count
     → text ≡ journal_text Two had → bytes ≡ text ++ entries_text (count + 1) more → IsMade k bytes
     → Holds k (had ++ more)
@@ -59,7 +59,7 @@ unchanged (Some k) count news = λ es n h.
       h.1,
     )
 
--- an append that failed
+-- a failed append
 pub appended : (a b : Option Kept) (count n : ℕ) (news : List Entry) (text : List ℕ)
     → text ≡ entries_text (count + 1) news → Grows a b (take n text) → AddsInPart a b count news
 appended None None count n news text is g = λ es m h. tt
@@ -75,7 +75,7 @@ appended (Some k) (Some m) count n news text is g = λ es c h.
       g.1 ∙ h.1,
     )
 
--- an append, and a sync that failed
+-- an append, and a failed sync
 pub unsynced : (a b c : Option Kept) (count : ℕ) (news : List Entry) (text : List ℕ)
     → text ≡ entries_text (count + 1) news → Grows a b text → Stays b c → AddsInPart a c count news
 unsynced None None None count news text is g s = λ es n h. tt

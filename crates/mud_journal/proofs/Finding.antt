@@ -1,4 +1,4 @@
--- What is found in bytes, and what is refused.
+-- The journal found in bytes, and the rejected bytes.
 use Rattle.std.proofs.Common.{◌≡◌, ◌≢◌, ◌⊎◌, inl, inr, ℕ, ◌+◌, ◌-◌, ◌<◌, ◌≤◌, Bool, true, false, List, [], ◌++◌}
 use Rattle.std.proofs.Common.{length, take, drop, get_or, refl, sym, ◌∙◌, ap, arith, subst, append_assoc}
 use Rattle.std.proofs.Common.{Option, Some, None}
@@ -55,12 +55,12 @@ ends_head : (format : Format) → HasNoLineFeed (head_text format) → ⊥
 ends_head One none = All-get_or (λ b. b ≢ LF) (head_text One) 13 0 (omega arith) none refl
 ends_head Two none = All-get_or (λ b. b ≢ LF) (head_text Two) 13 0 (omega arith) none refl
 
--- where no journal was begun there is no first line
+-- a file in which no journal was begun has no first line
 pub blank_begins_nothing : (bytes : List ℕ) → IsBlank bytes → IsNoHistory bytes
 blank_begins_nothing bytes blank format rest is =
     ends_head format (subst HasNoLineFeed (ap (take 14) is ∙ head_front format rest) blank.unended)
 
--- as many bytes as a first line has are none, and so what goes on from them begins with none
+-- if as many bytes as a first line has are not a first line, the bytes that continue them do not begin with one
 pub none_behind : (first rest : List ℕ) → length first ≡ 14 → IsNoHistory first → IsNoHistory (first ++ rest)
 none_behind first rest long none format more is =
     none format [] (sym (front first rest 14 (sym long)) ∙ ap (take 14) is ∙ head_front format more
@@ -73,7 +73,7 @@ blank_front first rest long blank = record {
   blank = subst (All (λ b. b ≡ 0)) (sym (drop_all 14 first (omega (arith, long)))) (All-nil (λ b. b ≡ 0));
 }
 
--- ---- where no journal was begun
+-- ---- files in which no journal was begun
 
 -- the byte at a place of a blank file
 abbrev pub IsBlankAt : List ℕ → ℕ → Type 0
@@ -107,7 +107,7 @@ blank_at bytes k lt blank = (before, after)
 
 -- ---- the journal
 
--- what is kept of bytes in which a journal was begun
+-- the kept prefix of bytes in which a journal was begun
 pub record IsKept (bytes : List ℕ) (entries : List Entry) (keep : ℕ) : Type 0 where
   pub text : take keep bytes ≡ journal_text Two entries
   pub within : keep ≤ length bytes
@@ -145,7 +145,7 @@ kept_of bytes entries keep r some = go r.ends
           };
         }
 
--- the text of a journal is no shorter than a first line
+-- the text of a journal is at least as long as a first line
 pub unbegun : (bytes : List ℕ) (entries : List Entry) (keep : ℕ) → Recovers bytes Two entries keep → keep ≡ 0
     → IsNoHistory bytes
 unbegun bytes entries keep r none = go r.ends
@@ -155,9 +155,9 @@ unbegun bytes entries keep r none = go r.ends
     go (inr (torn, spelled, unended, keep_is)) =
         absurd (omega (arith, none, keep_is, length-append (head_text Two) (entries_text 1 entries)))
 
--- ---- what is refused
+-- ---- rejected bytes
 
--- the fault before the first zero is that of the bytes, where no journal was begun in them
+-- the fault of the bytes before the first zero is that of all bytes, if a journal was begun in them
 pub refused_as : (bytes : List ℕ) (fault : OpenFault) → (IsBlank bytes → ⊥) → IsRefusedIn (up_to_zero bytes) fault
     → IsRefusedAs bytes fault
 refused_as bytes fault.NotHistory other none = (no_history bytes none, other)
@@ -170,7 +170,7 @@ refused_as bytes fault.Old other h = h
 refused_as bytes (fault.Line n) other h = h
 refused_as bytes fault.TooLong other h = h
 
--- as many bytes as a first line has begin with none, as `starts_with` tells
+-- as many bytes as a first line has begin with none, as `starts_with` says
 pub none_of_two : (bytes one two : List ℕ) (r q : Bool) → one ≡ head_text One → two ≡ head_text Two
     → ((rest : List ℕ) → bytes ≡ one ++ rest → r ≡ true) → ((rest : List ℕ) → bytes ≡ two ++ rest → q ≡ true)
     → r ≡ false → q ≡ false → IsNoHistory bytes
@@ -192,7 +192,7 @@ foreign (Some bytes) (Some rest) first count long all none other takes =
       λ blank. other (blank_front first rest long (subst IsBlank is blank)),
     )
 
--- the first bytes of a reader, and those that were left
+-- the first bytes of a reader, and the remaining ones
 pub all_of : (known left : Option (List ℕ)) (first bytes : List ℕ) → Consumes known left first
     → IfSome left (λ rest. bytes ≡ first ++ rest) → IfSome known (λ all. bytes ≡ all)
 all_of None left first bytes takes more = tt
@@ -205,7 +205,7 @@ takes_none None left first kept = tt
 takes_none (Some all) None first kept = absurd kept
 takes_none (Some all) (Some rest) first kept = sym kept
 
--- what is found in all bytes of a reader
+-- the journal found in all bytes of a reader
 pub found_in_all : (known : Option (List ℕ)) (bytes : List ℕ) (entries : List Entry) (torn : ℕ)
     → IfSome known (λ all. bytes ≡ all) → Finds bytes entries torn
     → IfSome known (λ all. Finds all entries torn)

@@ -1,4 +1,4 @@
--- Why there is no journal to go on from in the bytes of a file.
+-- The reasons why the bytes of a file are not a journal to continue.
 use Rattle.std.specs.Prelude.{ℕ, ◌<◌, List, Option, IfSome}
 use Rattle.mud_world.specs.declared.limits.TheConstants.{MOST_ENTRIES}
 use Rattle.mud_chron.specs.declared.format.Format.TheVariants.{One}
@@ -12,7 +12,8 @@ use Rattle.mud_journal.specs.declared.fault.OpenFault.{OpenFault}
 use Rattle.mud_journal.specs.declared.fault.OpenFault.TheVariants.{OutOfMemory, NotHistory, Whole, Old, Line, TooLong}
 use Rattle.mud_journal.specs.declared.fault.OpenFault.TheVariants.{File}
 
--- the fault of the bytes before the first zero, unless memory ran out; a file has further faults, none of its bytes
+-- the fault of the bytes before the first zero, unless memory ran out; a file has further faults, which its bytes do
+-- not show
 abbrev pub IsRefusedIn : List ℕ → OpenFault → Type 0
 IsRefusedIn bytes OutOfMemory = Unit {0}
 IsRefusedIn bytes NotHistory = IsNoHistory bytes
@@ -22,18 +23,18 @@ IsRefusedIn bytes (Line n) = HasOtherLine bytes n
 IsRefusedIn bytes TooLong = IsTooLong bytes
 IsRefusedIn bytes other = ⊥
 
--- the fault of bytes in which a journal was begun, or something else
+-- the fault of bytes in which a journal, or something else, was begun
 abbrev pub IsRefusedAs : List ℕ → OpenFault → Type 0
 IsRefusedAs bytes NotHistory = IsNoHistory bytes × (IsBlank bytes → ⊥)
 IsRefusedAs bytes fault = IsRefusedIn (up_to_zero bytes) fault
 
--- the fault of the bytes of a reader, as far as they are known, or of a read
+-- the fault of a reader's bytes, as far as they are known, or of a read
 abbrev pub IsUnfoundAs : Option (List ℕ) → OpenFault → Type 0
 IsUnfoundAs known OutOfMemory = Unit {0}
 IsUnfoundAs known (File why) = Unit {0}
 IsUnfoundAs known fault = IfSome known (λ bytes. IsRefusedAs bytes fault)
 
--- why no journal of this many entries is begun
+-- the reason why no journal of this many entries is begun
 abbrev pub IsBeginFault : ℕ → OpenFault → Type 0
 IsBeginFault count OutOfMemory = Unit {0}
 IsBeginFault count (File why) = Unit {0}

@@ -1,4 +1,4 @@
-//! A disk as a journal sees it: a file that is made whole, and then grows.
+//! The disk of a journal: a file that is replaced whole, and then only grows.
 
 ghost use Rattle.std.specs.Prelude.{ℕ, List, ◌⊎◌, Option, Some, OnOk, OnErr, take};
 ghost use Rattle.mud_journal.specs.Disk.{Kept, Grows, Syncs, Stays, IsMade, IsLeft, made};
@@ -6,46 +6,46 @@ ghost use Rattle.mud_journal.specs.Disk.{Kept, Grows, Syncs, Stays, IsMade, IsLe
 use std::io::{self, ErrorKind};
 use thiserror::Error;
 
-/// Why a disk did not do what it was to do.
+/// The reason why a call of a disk failed.
 #[derive(Clone, Copy, Debug, PartialEq, Eq, Error)]
 pub enum DiskFault {
-    /// There is no folder of that name.
+    /// There is no folder with that name.
     #[error("no such folder")]
     NoFolder,
-    /// The user of this process has no right to.
+    /// The user of this process lacks the permission.
     #[error("permission denied")]
     Denied,
-    /// The file system takes no writes.
+    /// The file system is mounted read-only.
     #[error("read-only file system")]
     ReadOnly,
     /// The disk is full.
     #[error("no space")]
     NoSpace,
-    /// The user has as much on the disk as he may.
+    /// The user has reached the disk quota.
     #[error("over quota")]
     OverQuota,
     /// The file would be longer than a file may be.
     #[error("file too large")]
     TooLarge,
-    /// The name, or that of the file beside it, is longer than a name may be.
+    /// The name, or the name of the temporary file beside it, is too long.
     #[error("name too long")]
     LongName,
-    /// The symbolic links of the name lead back to themselves.
+    /// The symbolic links of the name form a cycle.
     #[error("links in a circle")]
     LinkLoop,
-    /// The name is one of the system's own, as that of a mount.
+    /// The name belongs to the system, such as a mount point.
     #[error("busy")]
     Busy,
-    /// The file system has no locks.
+    /// The file system does not support locks.
     #[error("no locks")]
     NoLocks,
-    /// Any other fault of a call, as of a disk that is broken.
+    /// Any other failure of a call, such as that of a broken disk.
     #[error("input or output failed")]
     Failed,
 }
 
 impl DiskFault {
-    /// The fault of a call of the system.
+    /// Returns the fault of a failed system call.
     pub fn of(error: &io::Error) -> DiskFault {
         match error.kind() {
             ErrorKind::NotFound | ErrorKind::NotADirectory => DiskFault::NoFolder,
@@ -62,36 +62,36 @@ impl DiskFault {
     }
 }
 
-/// A disk with one file. What stood there before this process came is not known to outlive a crash, whatever a read or
-/// a sync answers: so the file is made whole by [`Disk::replace`], and then grows. No call takes a byte away but that
-/// one, which is all or nothing.
+/// A disk with one file. Bytes from before this process are not known to survive a crash, whatever a read or a sync
+/// returned. So the file is first replaced whole by [`Disk::replace`], which is atomic, and then only grows. No other
+/// call removes a byte.
 pub trait Disk {
-    /// What this process wrote to the file, and what of it is synced; `None` where nothing is known, as before the
-    /// first [`Disk::replace`].
+    /// The bytes that this process wrote to the file, and the synced prefix; `None` while nothing is known, as before
+    /// the first [`Disk::replace`].
     ghost kept: { Self → Option Kept };
 
-    /// What a crash at this moment may leave. A crash within a call leaves what one before it may, or what one may if
-    /// the call did all of it.
+    /// The contents that a crash at this moment may leave. A crash inside a call leaves contents that were possible
+    /// before the call or after it.
     ghost may_leave: { Self → List ℕ → Type 0 };
 
-    /// Makes these bytes the whole file, and waits until they outlive a crash. After a fault the file is what it was,
-    /// or it is these bytes.
+    /// Replaces the whole file by these bytes, and waits until they are durable. After a fault the file has its old
+    /// contents, or these bytes.
     fn replace(&mut self, bytes: &[u8]) -> Result<(), DiskFault>
         ensures ok { OnOk result (IsMade (kept self.new) bytes.now) }
         ensures err { OnErr result ((left : List ℕ) → may_leave self.new left
             → may_leave self.old left ⊎ IsLeft (Some (made bytes.now)) left) };
 
-    /// Appends the bytes; after a fault a front of them.
+    /// Appends the bytes. After a fault a prefix of them was appended.
     fn append(&mut self, bytes: &[u8]) -> Result<(), DiskFault>
         ensures ok { OnOk result (Grows (kept self.old) (kept self.new) bytes.now) }
         ensures err { OnErr result ((n : ℕ) × Grows (kept self.old) (kept self.new) (take n bytes.now)) };
 
-    /// Waits until all that was appended outlives a crash; after a fault nothing more is known to, and a later call is
-    /// worth nothing.
+    /// Waits until all appended bytes are durable. After a fault no more bytes are known to be durable, and a later
+    /// call does not help.
     fn sync(&mut self) -> Result<(), DiskFault>
         ensures ok { OnOk result (Syncs (kept self.old) (kept self.new)) }
         ensures err { OnErr result (Stays (kept self.old) (kept self.new)) };
 
-    /// A crash leaves what was synced, and behind it each byte as it was appended, or a zero.
+    /// A crash leaves the synced bytes, and after them each appended byte as it was written, or as a zero.
     ghost left: { (disk : Self) (bytes : List ℕ) → may_leave disk bytes → IsLeft (kept disk) bytes };
 }

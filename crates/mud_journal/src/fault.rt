@@ -1,4 +1,4 @@
-//! Why there is no journal, and why a journal takes no more.
+//! The faults of opening a journal, and of writing to one.
 
 ghost use Rattle.std.specs.Prelude.{ℕ, List, Option};
 ghost use Rattle.mud_journal.specs.OpenFaults.{IsUnfoundAs};
@@ -8,31 +8,31 @@ use std::alloc::{AllocError, AllocFailed};
 use std::io::{self, ErrorKind};
 use thiserror::Error;
 
-/// Why there is no journal to go on from in a file. No byte of the file has changed; it may be new.
+/// The reason why a file has no journal to continue. No byte of the file has changed; the file may be new.
 #[derive(Clone, Copy, Debug, PartialEq, Eq, Error)]
 pub enum OpenFault {
-    /// Memory ran out.
+    /// An allocation failed.
     #[error("out of memory")]
     OutOfMemory,
     /// The file can't be opened, locked or read, or a new one can't take its place.
     #[error("file: {0}")]
     File(DiskFault),
-    /// The name is that of a folder, a device, a pipe or a socket.
+    /// The name belongs to a folder, a device, a pipe or a socket.
     #[error("not a plain file")]
     NotPlain,
-    /// Another program has the file.
+    /// Another process has locked the file.
     #[error("in use")]
     InUse,
-    /// The bytes do not begin as a history, or are more than a journal can have.
+    /// The bytes do not begin as a history, or there are more of them than a journal can have.
     #[error("not a history")]
     NotHistory,
-    /// It is the text of a whole history: a journal has no last line.
+    /// The text is a whole history: a journal has no last line.
     #[error("a whole history: load it, or take its last line off")]
     Whole,
-    /// It is a journal of format 1, which is not written any more.
+    /// The journal has format 1, which is no longer written.
     #[error("old format")]
     Old,
-    /// This line of the text, counted from 1, is not that of the next entry.
+    /// This line of the text, counted from 1, is not the line of the next entry.
     #[error("journal line {0}")]
     Line(usize),
     /// The text has more than 65,536 entries.
@@ -41,7 +41,7 @@ pub enum OpenFault {
 }
 
 impl OpenFault {
-    // The fault of a call of the system.
+    // Returns the fault of a failed system call.
     pub(crate) fn of_file(error: &io::Error) -> OpenFault
         ensures { (known : Option (List ℕ)) → IsUnfoundAs known result }
     {
@@ -74,19 +74,19 @@ impl From<DiskFault> for OpenFault {
     }
 }
 
-/// Why a journal takes no more.
+/// The reason why a journal accepts no more entries.
 #[derive(Clone, Copy, Debug, PartialEq, Eq, Error)]
 pub enum JournalFault {
-    /// Memory ran out for the text that is to be written.
+    /// An allocation for the text to write failed.
     #[error("out of memory")]
     OutOfMemory,
-    /// The disk did not take it.
+    /// The disk failed.
     #[error("disk")]
     Disk,
-    /// It would have more than 65,536 entries.
+    /// The journal would have more than 65,536 entries.
     #[error("full")]
     Full,
-    /// Its entries are not those that the desks made. No call of this crate answers it.
+    /// The entries are not those that the desks made. No call of this crate returns it.
     #[error("mismatch")]
     Mismatch,
 }

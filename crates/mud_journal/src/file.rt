@@ -1,4 +1,4 @@
-//! The file of a journal.
+//! The journal's file.
 
 ghost use Rattle.std.specs.Prelude.{◌≡◌, ◌≤◌, IfOk, length};
 ghost use Rattle.mud_world.specs.declared.limits.TheConstants.{MOST_ENTRIES};
@@ -16,24 +16,24 @@ use std::os::unix::fs::{MetadataExt, OpenOptionsExt, fchown};
 use std::os::unix::io::AsFd;
 use std::rt::Files;
 
-// Who makes a new journal may read and write it, and nobody else.
+// Only the owner of a new journal may read and write it.
 const NEW_MODE: u32 = 0o600;
 
-// More bytes than any journal has: 65,536 entries of some 1,000 each are half of it.
+// Greater than the length of any journal: 65,536 entries of about 1,000 bytes are half of it.
 const MOST_BYTES: u64 = 134_217_728;
 
-/// The file of a journal by its name, which this process alone has.
+/// The file of a journal by its name, locked by this process.
 #[derive(Drop)]
 pub struct JournalFile<'r, R: Files<File = File>> {
     rt: &'r R,
     file: File,
-    // No symbolic link.
+    // The name is not a symbolic link.
     name: String,
-    // Where a new text is written before it takes the name.
+    // The temporary file for a new text, before it takes the name.
     beside: String,
 }
 
-// The folder of a file.
+// Returns the folder of a file.
 fn folder(name: &str) -> &str {
     match name.rsplit_once('/') {
         Some(("", _)) => "/",
@@ -42,7 +42,7 @@ fn folder(name: &str) -> &str {
     }
 }
 
-// Whether a file can be a journal by its kind and length.
+// Checks that the kind and the length of a file are possible for a journal.
 fn check_kind(about: &Metadata) -> Result<(), OpenFault> {
     if !about.is_file() {
         return Err(OpenFault::NotPlain);
@@ -53,7 +53,8 @@ fn check_kind(about: &Metadata) -> Result<(), OpenFault> {
     Ok(())
 }
 
-// Whether what has this name, if there is something, can be a journal. It is not opened: that may wait without end.
+// Checks that a file with this name, if there is one, can be a journal. It does not open the file, because that may
+// block forever.
 fn check_name(rt: &impl Files, name: &str) -> Result<(), OpenFault> {
     match fs::metadata(rt, name) {
         Ok(about) => check_kind(&about),
@@ -62,7 +63,7 @@ fn check_name(rt: &impl Files, name: &str) -> Result<(), OpenFault> {
     }
 }
 
-// The file of this name, which is new where there was none.
+// Opens the file with this name, and creates it if necessary.
 fn open_file<R: Files<File = File>>(rt: &R, name: &str) -> io::Result<File> {
     OpenOptions::new()
         .read(true)
@@ -72,7 +73,7 @@ fn open_file<R: Files<File = File>>(rt: &R, name: &str) -> io::Result<File> {
         .open(rt, name)
 }
 
-// Has the file for this process only.
+// Locks the file for this process.
 fn lock(file: &File) -> Result<(), OpenFault> {
     match file.try_lock() {
         Ok(()) => Ok(()),
@@ -81,7 +82,7 @@ fn lock(file: &File) -> Result<(), OpenFault> {
     }
 }
 
-// The name of the file itself, where the last part of a name is a symbolic link.
+// Returns the name of the file itself if the last part of the name is a symbolic link.
 fn resolved<R: Files + AllocGlobal>(rt: &R, name: &str) -> io::Result<String> {
     if fs::symlink_metadata(rt, name)?.is_symlink() {
         let path = fs::canonicalize(rt, name)?;
@@ -90,13 +91,14 @@ fn resolved<R: Files + AllocGlobal>(rt: &R, name: &str) -> io::Result<String> {
     Ok(String::from_str(rt.alloc(), name)?)
 }
 
-// Whether the name is that of the open file: between the opening and the lock another process may have replaced it.
+// Returns whether the name still belongs to the open file. Another process may have replaced the file between opening
+// and locking.
 fn is_named<R: Files<File = File>>(rt: &R, file: &File, name: &str) -> io::Result<bool> {
     let (named, opened) = (fs::symlink_metadata(rt, name)?, file.metadata()?);
     Ok(named.dev() == opened.dev() && named.ino() == opened.ino())
 }
 
-// Removes a file, if it is there.
+// Removes a file if it exists.
 fn remove(rt: &impl Files, name: &str) -> io::Result<()> {
     match fs::remove_file(rt, name) {
         Err(error) if error.kind() != ErrorKind::NotFound => Err(error),
@@ -104,7 +106,7 @@ fn remove(rt: &impl Files, name: &str) -> io::Result<()> {
     }
 }
 
-// Gives a new file the mode of an old one, and its owner where this process may.
+// Gives a new file the mode of an old one, and its owner if this process is allowed to.
 fn take_after(old: &File, new: &File) -> io::Result<()> {
     let about = old.metadata()?;
     let _ = fchown(new.as_fd(), Some(about.uid()), Some(about.gid()));
@@ -112,7 +114,7 @@ fn take_after(old: &File, new: &File) -> io::Result<()> {
 }
 
 impl<'r, R: Files<File = File> + AllocGlobal> JournalFile<'r, R> {
-    // The open file of this name.
+    // Returns the journal's file for an open file with this name.
     fn new(rt: &'r R, file: File, name: &str) -> io::Result<JournalFile<'r, R>> {
         let name = resolved(rt, name)?;
         let beside = format!(in rt.alloc(); "{name}.start")?;
@@ -126,8 +128,8 @@ impl<'r, R: Files<File = File> + AllocGlobal> JournalFile<'r, R> {
 }
 
 impl<R: Files<File = File>> JournalFile<'_, R> {
-    // Writes these bytes to a new file beside the old one, and gives it the name once they are synced. It is locked
-    // before that, as the old one is.
+    // Writes these bytes to a temporary file, locks it as the old one is, syncs it, and renames it to the journal's
+    // name.
     fn write_beside(&self, bytes: &[u8]) -> io::Result<File> {
         let (rt, beside) = (self.rt, self.beside.as_str());
         remove(rt, beside)?;
@@ -144,7 +146,7 @@ impl<R: Files<File = File>> JournalFile<'_, R> {
         Ok(new)
     }
 
-    // Waits until the name of the file outlives a crash.
+    // Waits until the name of the file is durable.
     fn sync_name(&self) -> io::Result<()> {
         File::open(self.rt, folder(self.name.as_str()))?.sync_all()
     }
@@ -156,7 +158,7 @@ impl<R: Files<File = File>> Read for JournalFile<'_, R> {
     }
 }
 
-/// A file of the system, of which nothing is claimed.
+/// A file of the operating system. Nothing is claimed about its contents.
 impl<R: Files<File = File>> Disk for JournalFile<'_, R> {
     ghost use Rattle.std.specs.Prelude.{None};
 
@@ -188,7 +190,7 @@ impl<R: Files<File = File>> Disk for JournalFile<'_, R> {
     }
 }
 
-// The file of this name, which this process alone has from now on.
+// Opens and locks the file with this name.
 fn take_file<'r, R: Files<File = File> + AllocGlobal>(
     rt: &'r R,
     name: &str,
@@ -208,9 +210,9 @@ fn take_file<'r, R: Files<File = File> + AllocGlobal>(
     }
 }
 
-/// Opens the file of this name, which may be new, and has it for this process only. Answers what [`found_in`] finds in
-/// it: the journal, its entries, and how many bytes at its end are torn. No byte of the file changes. Through a
-/// symbolic link it is the file that the link leads to.
+/// Opens the file with this name, creating it if necessary, and locks it for this process. Returns what [`found_in`]
+/// finds in it: the journal, its entries, and the number of torn bytes at its end. No byte of the file changes. A
+/// symbolic link is followed.
 pub fn find_journal<'r, R: Files<File = File> + AllocGlobal>(
     rt: &'r R,
     name: &str,

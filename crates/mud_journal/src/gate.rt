@@ -1,37 +1,37 @@
-//! How far a journal is synced, and those who wait for it.
+//! The commit barrier: how far a journal is synced, and the threads that wait for it.
 
 ghost use Rattle.std.specs.Prelude.{◌≡◌, ◌≤◌, IfSome, true, false};
 
 use crate::journal::Receipt;
 use std::sync::{Condvar, Mutex, Wait};
 
-// What is asked of a journal, and what it answered.
+// The state of the barrier: the requested version, and the result of the journal.
 #[derive(Drop)]
 struct Mark {
-    // The last version that is to be synced.
+    // The greatest version that was requested to be synced.
     wanted: usize,
-    // What the journal synced; a gate without a journal keeps that of nothing.
+    // The receipt of the last sync. A gate without a journal keeps the receipt for nothing.
     synced: Receipt,
-    // It takes no more.
+    // True once the journal accepts no more.
     has_failed: bool,
-    // No more will be asked for.
+    // True once no more will be requested.
     is_closed: bool,
     ghost of_journal: { synced.is_free ≡ false },
 }
 
-/// How far a journal is synced, for the thread that writes it and the threads that wait for it. Under its lock nothing
-/// else is locked. A gate without a journal is open: nothing waits there, and its lock is not taken.
+/// A commit barrier between the thread that writes the journal and the threads that wait for it. No other lock is taken
+/// while its lock is held. A gate without a journal is open: no thread waits at it, and its lock is not taken.
 #[derive(Drop)]
 pub struct Gate {
     state: Mutex<Mark>,
     is_open: bool,
-    // There is something to be synced, or the gate is closed.
+    // Signalled when something is to be synced, or when the gate is closed.
     work: Condvar,
-    // More is synced, or the journal takes no more.
+    // Signalled when more is synced, or when the journal has failed.
     done: Condvar,
 }
 
-// A gate at which this is synced.
+// Returns a gate at which this much is synced.
 fn gate_at(synced: Receipt, is_open: bool) -> Gate
     requires { synced.is_free ≡ false }
     ensures { result.is_open ≡ is_open }
@@ -50,28 +50,28 @@ fn gate_at(synced: Receipt, is_open: bool) -> Gate
 }
 
 impl Gate {
-    /// The gate of a journal that has synced this. A free receipt says nothing of a journal.
+    /// Returns the gate of a journal that has synced this much. A free receipt carries no information about a journal.
     pub fn new(receipt: &Receipt) -> Gate
         ensures { result.is_open ≡ false }
     {
         gate_at(receipt.of_journal(), false)
     }
 
-    /// The gate of a server without a journal, where all counts as synced.
+    /// Returns the gate of a server without a journal, at which everything counts as synced.
     pub fn open() -> Gate
         ensures { result.is_open ≡ true }
     {
         gate_at(Receipt::of_nothing(), true)
     }
 
-    /// Whether there is no journal.
+    /// Returns whether there is no journal.
     pub fn is_open(&self) -> bool
         ensures { result ≡ self.now.is_open }
     {
         self.is_open
     }
 
-    /// How many entries are synced; where there is no journal, the largest number.
+    /// Returns the number of synced entries, or the greatest number if there is no journal.
     pub fn synced_count<R: Wait>(&self, rt: &R) -> usize {
         if self.is_open {
             return usize::MAX;
@@ -79,8 +79,8 @@ impl Gate {
         self.state.lock(rt).synced.up_to()
     }
 
-    /// Waits until this many entries are synced. There is no receipt where the journal takes no more before. It is free
-    /// only where there is no journal.
+    /// Waits until this many entries are synced. Returns no receipt if the journal fails before that. The receipt is
+    /// free only if there is no journal.
     pub fn wait_for<R: Wait>(&self, rt: &R, version: usize) -> Option<Receipt>
         ensures up_to { IfSome result (λ r. version ≤ r.up_to) }
         ensures of_journal { self.now.is_open ≡ false → IfSome result (λ r. r.is_free ≡ false) }
@@ -106,7 +106,7 @@ impl Gate {
         unreachable!()
     }
 
-    /// Asks that this many entries be synced, and waits for nothing.
+    /// Requests that this many entries be synced, without waiting.
     pub fn want<R: Wait>(&self, rt: &R, version: usize) {
         if self.is_open {
             return;
@@ -118,7 +118,7 @@ impl Gate {
         }
     }
 
-    /// Waits until something is to be synced: true. False once there is nothing, and the gate is closed.
+    /// Waits until something is to be synced, and returns true. Returns false once nothing is, and the gate is closed.
     pub fn next<R: Wait>(&self, rt: &R) -> bool {
         let mut state = self.state.lock(rt);
         for _ in rt.forever() {
@@ -133,7 +133,8 @@ impl Gate {
         unreachable!()
     }
 
-    /// Lets go those who wait for what is synced now. A free receipt says nothing of a journal, and lets nobody go.
+    /// Releases the threads that wait for entries which are synced now. A free receipt carries no information, and
+    /// releases no thread.
     pub fn publish<R: Wait>(&self, rt: &R, receipt: &Receipt) {
         let synced = receipt.of_journal();
         let mut state = self.state.lock(rt);
@@ -143,18 +144,18 @@ impl Gate {
         self.done.notify_all();
     }
 
-    /// The journal takes no more: those who wait get no receipt.
+    /// Records that the journal has failed. Waiting threads get no receipt.
     pub fn fail<R: Wait>(&self, rt: &R) {
         self.state.lock(rt).has_failed = true;
         self.done.notify_all();
     }
 
-    /// Whether the journal takes no more.
+    /// Returns whether the journal has failed.
     pub fn has_failed<R: Wait>(&self, rt: &R) -> bool {
         !self.is_open && self.state.lock(rt).has_failed
     }
 
-    /// No more will be asked for.
+    /// Records that no more will be requested.
     pub fn close<R: Wait>(&self, rt: &R) {
         self.state.lock(rt).is_closed = true;
         self.work.notify_one();

@@ -1,25 +1,26 @@
-//! Texts that wait for what they tell.
+//! Texts that are withheld until the versions they mention are durable.
 
 ghost use Rattle.std.specs.Prelude.{◌≡◌, ◌≤◌, ◌==◌, vec_len};
 
 use crate::journal::Receipt;
 use std::marker::PhantomData;
 
-/// Which texts tell of no version beyond a number. A crate that knows what its texts tell says it by a type of its own.
+/// The texts that mention no version above a number. A crate whose texts mention versions implements it by a type of
+/// its own.
 pub trait Telling {
     ghost use Rattle.std.specs.Prelude.{ℕ, List};
 
     ghost up_to: { ℕ → List ℕ → Type 0 };
 }
 
-/// Nothing is said of what a text tells.
+/// A text about which nothing is claimed.
 pub struct Anything;
 
 impl Telling for Anything {
     ghost up_to = { λ _ _. Unit {0} };
 }
 
-/// A text that tells of no version beyond the one that it is held for. It comes out only by a receipt for that version.
+/// A text that mentions no version above the one that it is held for. Only a receipt for that version releases it.
 #[derive(Drop)]
 pub struct Held<T: Telling = Anything> {
     text: Vec<u8>,
@@ -29,7 +30,7 @@ pub struct Held<T: Telling = Anything> {
 }
 
 impl<T: Telling> Held<T> {
-    /// The text, held for this version.
+    /// Withholds the text until this version is synced.
     pub fn new(text: Vec<u8>, version: usize) -> Held<T>
         requires tells { ∥ T.up_to version text.items ∥₁ }
         ensures text { result.text ≡ text }
@@ -42,21 +43,21 @@ impl<T: Telling> Held<T> {
         }
     }
 
-    /// Whether there is nothing to be sent.
+    /// Returns whether the text is empty.
     pub fn is_empty(&self) -> bool
         ensures { result ≡ (vec_len self.now.text == 0) }
     {
         self.text.is_empty()
     }
 
-    /// The version that it is held for.
+    /// Returns the version that the text is held for.
     pub fn version(&self) -> usize
         ensures { result ≡ self.now.version }
     {
         self.version
     }
 
-    /// The text, once its version is synced.
+    /// Returns the text, given a receipt for its version.
     pub fn open(self, receipt: &Receipt) -> Vec<u8>
         requires { self.version ≤ receipt.now.up_to }
         ensures text { result ≡ self.text }

@@ -1,4 +1,4 @@
-//! A journal on a disk.
+//! The journal on a disk.
 
 ghost use Rattle.std.specs.Prelude.{◌≡◌, ◌≤◌, ◌+◌, ◌++◌, ◌<◌, List, true, false, Err, IfOk, IfErr, OnOk, OnErr};
 ghost use Rattle.std.specs.Prelude.{length, string_bytes};
@@ -14,8 +14,8 @@ use mud_chron::{Entry, write_entry};
 use mud_world::limits::MOST_ENTRIES;
 use std::alloc::{AllocError, Global};
 
-/// That this many entries are synced. A journal makes it, and else only a gate without a journal, where it is free: no
-/// disk stands behind it.
+/// A proof that this many entries are durable. A journal makes receipts. A gate without a journal makes a free one,
+/// which no disk backs.
 #[derive(Clone, Copy)]
 pub struct Receipt {
     up_to: usize,
@@ -23,7 +23,7 @@ pub struct Receipt {
 }
 
 impl Receipt {
-    // For a gate without a journal: nothing waits.
+    // Returns the receipt of a gate without a journal, at which no thread waits.
     pub(crate) fn free() -> Receipt
         ensures { result ≡ record { up_to = 18446744073709551615; is_free = true } }
     {
@@ -33,7 +33,7 @@ impl Receipt {
         }
     }
 
-    // That no entry needs to be synced.
+    // Returns the receipt for no entries.
     pub(crate) fn of_nothing() -> Receipt
         ensures { result ≡ record { up_to = 0; is_free = false } }
     {
@@ -43,7 +43,7 @@ impl Receipt {
         }
     }
 
-    // The receipt, or that of nothing where it is free.
+    // Returns the receipt itself, or the receipt for no entries if it is free.
     pub(crate) fn of_journal(self) -> Receipt
         ensures { result.is_free ≡ false }
     {
@@ -54,7 +54,7 @@ impl Receipt {
         }
     }
 
-    /// How many.
+    /// Returns the number of durable entries.
     pub fn up_to(&self) -> usize
         ensures { result ≡ self.now.up_to }
     {
@@ -62,8 +62,8 @@ impl Receipt {
     }
 }
 
-/// A disk on which this text of a journal was found, or was to be, and how many entries the text has. The disk was not
-/// written to.
+/// A disk on which this text of a journal was found, or will be begun, and the number of entries in the text. The disk
+/// was not written to yet.
 #[derive(Drop)]
 pub struct Found<D: Disk> {
     disk: D,
@@ -71,7 +71,8 @@ pub struct Found<D: Disk> {
     count: usize,
 }
 
-/// A disk with the text of this many entries, all of it written by this process. After a fault it takes no more.
+/// A disk with the text of this many entries, all written by this process. After a fault the journal accepts no more
+/// entries.
 #[derive(Drop)]
 pub struct Journal<D: Disk> {
     disk: D,
@@ -79,7 +80,7 @@ pub struct Journal<D: Disk> {
     has_failed: bool,
 }
 
-// Appends the lines of the entries, of which the first makes this version.
+// Appends the lines of the entries, the first with this version.
 fn push_entries(
     alloc: Global,
     version: usize,
@@ -98,7 +99,7 @@ fn push_entries(
     Ok(())
 }
 
-// The text of more entries, the first of which makes the version after this one.
+// Returns the text of more entries, the first with the version after this one.
 fn append_entries(
     alloc: Global,
     count: usize,
@@ -114,23 +115,23 @@ fn append_entries(
 }
 
 impl<D: Disk + Drop> Found<D> {
-    // A disk on which this text of so many entries was found.
+    // Returns a disk on which this text of `count` entries was found.
     pub(crate) fn new(disk: D, text: Vec<u8>, count: usize) -> Found<D>
         ensures { result ≡ record { disk = disk; text = text; count = count } }
     {
         Found { disk, text, count }
     }
 
-    /// How many entries were found.
+    /// Returns the number of entries that were found.
     pub fn len(&self) -> usize
         ensures { result ≡ self.now.count }
     {
         self.count
     }
 
-    /// Makes the text that was found, and the lines of these entries more, the whole file, and goes on. That is done
-    /// whatever the disk held: what was read may be lost in a crash, and what is torn must go. With an error the disk
-    /// has what it had, or all of this.
+    /// Replaces the file by the text that was found and the lines of these further entries, and continues the journal.
+    /// It does so whatever the disk held, because a crash may lose the bytes that were read, and torn bytes have to go.
+    /// After an error the disk has its old contents, or all of this text.
     pub fn begin(self, alloc: Global, more: &[Entry]) -> Result<Journal<D>, OpenFault>
         ensures count { IfOk result (λ j. j.count ≡ self.count + length more.now) }
         ensures going { IfOk result (λ j. j.has_failed ≡ false) }
@@ -157,22 +158,22 @@ impl<D: Disk + Drop> Found<D> {
 }
 
 impl<D: Disk + Drop> Journal<D> {
-    /// How many entries it has.
+    /// Returns the number of entries.
     pub fn len(&self) -> usize
         ensures { result ≡ self.now.count }
     {
         self.count
     }
 
-    /// Whether it takes no more.
+    /// Returns whether the journal has failed.
     pub fn has_failed(&self) -> bool
         ensures { result ≡ self.now.has_failed }
     {
         self.has_failed
     }
 
-    /// Adds entries by one append and one sync. After a fault all that was synced before is kept, and the disk is not
-    /// touched again.
+    /// Appends entries with one write and one sync. After a fault all earlier synced entries are still durable, and the
+    /// journal does not touch the disk again.
     pub fn commit(&mut self, alloc: Global, entries: &[Entry]) -> Result<Receipt, JournalFault>
         ensures ok { OnOk result (Adds (D.kept self.old.disk) (D.kept self.new.disk) self.old.count entries.now) }
         ensures count { IfOk result (λ r. (self.new.count ≡ self.old.count + length entries.now)
@@ -203,14 +204,14 @@ impl<D: Disk + Drop> Journal<D> {
         Ok(self.receipt())
     }
 
-    /// Takes no more from now on.
+    /// Marks the journal as failed.
     pub fn fail(&mut self)
         ensures { self.new ≡ record self.old { has_failed = true } }
     {
         self.has_failed = true;
     }
 
-    /// That its entries are synced.
+    /// Returns the receipt for its entries.
     pub fn receipt(&self) -> Receipt
         ensures up_to { result.up_to ≡ self.now.count }
         ensures of_journal { result.is_free ≡ false }

@@ -1,18 +1,18 @@
-//! What is known of the definitions: each contract is a law, and its function does nothing.
+//! Laws of the definitions. Each contract is a law, and its function does nothing.
 
 ghost use Rattle.mud_journal.specs.Laws.{IsAlwaysRead, NothingIsLost, WhateverFollows};
 
-/// What a crash leaves of a journal can be read.
+/// Whatever a crash leaves of a journal can be recovered.
 pub fn always_read()
     ensures { IsAlwaysRead }
 {}
 
-/// In what a crash leaves of a journal all that was synced is found, and only what was written.
+/// From whatever a crash leaves of a journal, recovery finds every synced entry, and only written ones.
 pub fn nothing_is_lost()
     ensures { NothingIsLost }
 {}
 
-/// Whatever stands behind what was synced, all that was synced is found, or stands before the line that is refused.
+/// Whatever bytes follow the synced text, recovery finds all synced entries, or rejects a line after them.
 pub fn whatever_follows()
     ensures { WhateverFollows }
 {}

@@ -1,13 +1,20 @@
-//! A journal: a history's text, without its last line, that grows on a disk.
+//! A write-ahead journal: the text of a history without its last line, append-only and synced.
 //!
-//! [`find_journal`] opens the file of a journal and reads what is there, without a change to it; [`found_in`] does the
-//! same over any disk that is read, and [`recover`] for its bytes. [`Found::begin`] writes what was found anew, without
-//! what is torn, and goes on. [`Journal::commit`] adds entries by one append and one sync, and answers a [`Receipt`]. A
-//! [`Gate`] is told of receipts, and lets go those who wait for them: the bytes of a [`Held`] text come out only by a
-//! receipt for its version.
+//! [`find_journal`] opens the journal's file and reads it without changing it. [`found_in`] does the same over any disk
+//! that can be read, and [`recover`] for the bytes of a disk. [`Found::begin`] rewrites the text that was found,
+//! without torn bytes, and continues the journal. [`Journal::commit`] appends entries with one write and one sync, and
+//! returns a [`Receipt`]. A [`Gate`] is the commit barrier: it gets the receipts, and releases the threads that wait
+//! for them. A [`Held`] text is released only by a receipt for its version.
 //!
-//! Proved, over every [`Disk`]: that all its bytes are read, what it holds after each call, and by [`laws`] that
-//! nothing that was synced is lost, whatever a crash leaves. That a file is such a disk is believed.
+//! Threads: a journal belongs to one thread, which blocks on the disk in `commit`, and in `Gate::next` until something
+//! is to be synced or the gate is closed. All threads share the gate. `Gate::wait_for` blocks until the version is
+//! synced or the journal has failed; the other calls of a gate only take its lock for a moment. This crate starts no
+//! thread.
+//!
+//! Memory: a journal owns its disk, and a held text its bytes. Reading a disk reads its whole text into memory.
+//!
+//! Proved, over every [`Disk`]: all its bytes are read, the contents after each call are as stated, and by [`laws`] no
+//! synced entry is lost, whatever a crash leaves. It is an assumption that a file is such a disk.
 #![tactic(auto)]
 
 mod disk;

@@ -1,4 +1,4 @@
-//! What is found in the bytes of a disk.
+//! Recovers a journal from the bytes of a disk.
 
 ghost use Rattle.std.specs.Prelude.{◌≡◌, ◌≢◌, ◌≤◌, ◌++◌, ℕ, List, Option, true, IfOk, IfErr, IfSome, MatchBool};
 ghost use Rattle.std.specs.Prelude.{length, take};
@@ -20,10 +20,10 @@ use mud_key::codes::LF;
 use std::alloc::Global;
 use std::io::{ErrorKind, Read};
 
-// How many bytes a first line has, with its end.
+// The number of bytes in a first line, with its end.
 const FIRST_LINE_BYTES: usize = 14;
 
-// Whether the bytes are those of a file in which no journal was begun.
+// Returns whether the bytes are those of a file in which no journal was begun.
 fn is_blank(bytes: &[u8]) -> bool
     ensures { MatchBool result (IsBlank bytes.now) (¬ IsBlank bytes.now) }
 {
@@ -39,7 +39,7 @@ fn is_blank(bytes: &[u8]) -> bool
     true
 }
 
-// The fault of bytes that are no journal cut at a byte.
+// Returns the fault of bytes that are not a prefix of a journal.
 fn refusal(alloc: Global, bytes: &[u8], fault: ChronFault) -> OpenFault
     requires { fault ≢ ChronFault.OutOfMemory → HasFrontFault bytes.now fault }
     ensures { IsRefusedIn bytes.now result }
@@ -52,12 +52,12 @@ fn refusal(alloc: Global, bytes: &[u8], fault: ChronFault) -> OpenFault
         ChronFault::TooLong => OpenFault::TooLong,
         ChronFault::NotHistory => OpenFault::NotHistory,
         ChronFault::OutOfMemory => OpenFault::OutOfMemory,
-        // a prefix is not asked for its end, nor whether its changes are legal
+        // recovery neither looks for the last line nor replays the changes
         ChronFault::NoEnd | ChronFault::BadChange(_) => unreachable!(),
     }
 }
 
-// What is found in the bytes, where a journal was begun and can go on from it.
+// Returns the recovered prefix, if the bytes are a journal that can be continued.
 fn front_of(alloc: Global, bytes: &[u8]) -> Result<Front, OpenFault>
     ensures ok { IfOk result (λ f. Recovers bytes.now Two f.entries.items f.keep) }
     ensures begun { IfOk result (λ f. f.keep ≢ 0) }
@@ -78,9 +78,9 @@ fn front_of(alloc: Global, bytes: &[u8]) -> Result<Front, OpenFault>
     }
 }
 
-/// The journal that is found on a disk whose bytes are these; its entries; and how many bytes at its end are torn,
-/// which are left out. Torn is a last line that has no line feed before the first zero byte, and all that stands behind
-/// it. Where no journal was begun, it is a new one. The disk is not asked and not changed.
+/// Recovers the journal from the bytes of a disk. Returns it, its entries, and the number of torn bytes at its end.
+/// Torn are a last line without a line feed before the first zero byte, and all bytes after it. If no journal was
+/// begun, the result is a new one. The disk is neither read nor changed.
 pub fn recover<D: Disk + Drop>(
     alloc: Global,
     disk: D,
@@ -109,7 +109,8 @@ pub fn recover<D: Disk + Drop>(
     Ok((found, front.entries, len - front.keep))
 }
 
-// Whether as many bytes as a first line has can't be the beginning of a journal, or of a file in which none was begun.
+// Returns whether the bytes, as many as a first line has, can neither begin a journal nor belong to a file in which
+// none was begun.
 fn is_foreign(first: &[u8]) -> bool
     ensures { result ≡ true → IsNoHistory first.now × (IsBlank first.now → ⊥) }
 {
@@ -119,7 +120,7 @@ fn is_foreign(first: &[u8]) -> bool
     !first.starts_with(Format::Two.first_line().as_bytes())
 }
 
-// Reads once; nothing where a signal came between.
+// Reads once. Returns 0 after a signal.
 fn read_first<R: Read>(reader: &mut R, first: &mut [u8]) -> Result<usize, OpenFault>
     ensures count { IfOk result (λ n. n ≤ length first.new) }
     ensures bytes { IfOk result (λ n.
@@ -137,7 +138,7 @@ fn read_first<R: Read>(reader: &mut R, first: &mut [u8]) -> Result<usize, OpenFa
     }
 }
 
-// The first bytes of a reader, and all that are left.
+// Returns the first bytes of a reader, and all that are left.
 fn read_rest<R: Read>(alloc: Global, reader: &mut R, first: &[u8]) -> Result<Vec<u8>, OpenFault>
     ensures ok { IfOk result (λ v. IfSome (R.remaining reader.old) (λ bytes. v.items ≡ first.now ++ bytes)) }
     ensures err { IfErr result (λ fault. (known : Option (List ℕ)) → IsUnfoundAs known fault) }
@@ -151,7 +152,7 @@ fn read_rest<R: Read>(alloc: Global, reader: &mut R, first: &[u8]) -> Result<Vec
     }
 }
 
-// All bytes of a reader. Those that can be no journal's by their first line are not read on.
+// Returns all bytes of a reader. If their first line is not a journal's, the rest is not read.
 fn read_all<R: Read>(alloc: Global, reader: &mut R) -> Result<Vec<u8>, OpenFault>
     ensures ok { IfOk result (λ v. IfSome (R.remaining reader.old) (λ bytes. v.items ≡ bytes)) }
     ensures err { IfErr result (IsUnfoundAs (R.remaining reader.old)) }
@@ -170,8 +171,8 @@ fn read_all<R: Read>(alloc: Global, reader: &mut R) -> Result<Vec<u8>, OpenFault
     }
 }
 
-/// What [`recover`] finds in the bytes of a disk: all of them are read. Where its first line is none, the rest is not
-/// read.
+/// Reads all bytes of a disk, and returns what [`recover`] finds in them. If their first line is not a journal's, the
+/// rest is not read.
 pub fn found_in<D: Disk + Read + Drop>(
     alloc: Global,
     disk: D,

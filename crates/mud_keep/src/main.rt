@@ -1,9 +1,9 @@
-//! `mud_keep`: recovers, shortens, shows and draws the history of a world.
+//! `mud_keep`: recovers, compacts, shows and draws the history of a world.
 //!
-//! `mud_keep recover JOURNAL` prints the history that a journal holds, `mud_keep shorten HISTORY` a shorter one that
-//! leads to the same world, `mud_keep show HISTORY` the world as a table, and `mud_keep map HISTORY [PROOF]` its rooms
-//! and exits as a graph. With `--journal` a journal is read in place of a history. What is told beside the text goes to
-//! standard error, and the status says whether the file could be read (0) or not (2). docs/KEEPING.md has the lines.
+//! `mud_keep recover JOURNAL` prints the history in a journal, `mud_keep shorten HISTORY` a shorter one of the same
+//! world, `mud_keep show HISTORY` the world as a table, and `mud_keep map HISTORY [PROOF]` its rooms and exits as a
+//! graph. With `--journal` the file is a journal instead of a history. Notes go to standard error. The exit status says
+//! whether the file could be read (0) or not (2). docs/KEEPING.md has the lines.
 #![tactic(auto)]
 
 mod input;
@@ -28,7 +28,7 @@ fn main(rt: HostRuntime) -> ExitCode {
     }
 }
 
-// Does what the words ask for.
+// Runs the task of the words.
 fn run(rt: &HostRuntime, words: &[String]) -> ExitCode {
     match keeping_of(rt.alloc(), words) {
         Ok(Keeping::Text { wish, file }) => text(rt, wish, file),
@@ -37,7 +37,7 @@ fn run(rt: &HostRuntime, words: &[String]) -> ExitCode {
     }
 }
 
-// What the file is taken for.
+// Returns the kind of the file.
 fn kind_of(file: KeptFile<'_>) -> TextKind {
     if file.is_journal {
         TextKind::Journal
@@ -46,7 +46,7 @@ fn kind_of(file: KeptFile<'_>) -> TextKind {
     }
 }
 
-// What is answered to a wish.
+// Returns the text that the keeper asks for.
 fn answer_to(alloc: Global, wish: Wish, kind: TextKind, bytes: &[u8]) -> Result<Answer, KeptFault> {
     match wish {
         Wish::Recover => recovered_text(alloc, bytes),
@@ -56,7 +56,7 @@ fn answer_to(alloc: Global, wish: Wish, kind: TextKind, bytes: &[u8]) -> Result<
     }
 }
 
-// Answers a wish.
+// Prints the text that the keeper asks for.
 fn text(rt: &HostRuntime, wish: Wish, file: KeptFile<'_>) -> ExitCode {
     let bytes = match read_input(rt, file.name) {
         Ok(bytes) => bytes,
@@ -68,7 +68,7 @@ fn text(rt: &HostRuntime, wish: Wish, file: KeptFile<'_>) -> ExitCode {
     }
 }
 
-// Draws a map.
+// Prints a map.
 fn map(rt: &HostRuntime, file: KeptFile<'_>, proof: Option<&str>) -> ExitCode {
     let bytes = match read_input(rt, file.name) {
         Ok(bytes) => bytes,
@@ -90,7 +90,7 @@ fn map(rt: &HostRuntime, file: KeptFile<'_>, proof: Option<&str>) -> ExitCode {
     }
 }
 
-// Says why the words ask for nothing, or what they ask to be told, and answers the status.
+// Prints why the words name no task, or the help or version that they ask for. Returns the exit status.
 fn tell_fault(rt: &HostRuntime, fault: CommandFault) -> ExitCode {
     match fault {
         CommandFault::OutOfMemory => tell_unreadable(rt, Unkept::OutOfMemory),
@@ -102,13 +102,13 @@ fn tell_fault(rt: &HostRuntime, fault: CommandFault) -> ExitCode {
     }
 }
 
-// Says why there is no answer, where that can be said, and answers the status.
+// Prints why there is no answer, ignoring a failed write. Returns the exit status.
 fn tell_unreadable(rt: &HostRuntime, unkept: Unkept<'_>) -> ExitCode {
     let _ = eprintln!(rt; "unreadable: {unkept}");
     ExitCode::from(2)
 }
 
-// Prints the text, tells what is told beside it, and answers the status.
+// Prints the text, and its notes to standard error. Returns the exit status.
 fn print_answer(rt: &HostRuntime, text: &[u8], torn: Option<usize>, note: Note) -> ExitCode {
     let mut sink = Sink::new(io::writer(rt));
     if !sink.write_all(text) {

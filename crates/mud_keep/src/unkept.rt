@@ -1,4 +1,4 @@
-//! Why there is no answer.
+//! The reasons why there is no answer.
 
 use mud_cert::CertFault;
 use mud_chron::ChronFault;
@@ -6,16 +6,16 @@ use mud_compact::KeptFault;
 use mud_map::NoMap;
 use thiserror::Error;
 
-/// Why there is no answer. The words are those of `mud_check` (docs/CHECKER.md, "Lines").
+/// The reason why there is no answer. The words are those of `mud_check` (docs/CHECKER.md, "Lines").
 #[derive(Clone, Copy, Debug, Error)]
 pub enum Unkept<'a> {
-    /// Memory ran out.
+    /// An allocation failed.
     #[error("out of memory")]
     OutOfMemory,
-    /// The file of this name can't be read; `-` is standard input.
+    /// The file with this name can't be read; `-` is standard input.
     #[error("file {0}")]
     File(&'a str),
-    /// The file has no byte.
+    /// The file is empty.
     #[error("empty file")]
     Empty,
     /// The text does not begin as a history.
@@ -24,7 +24,7 @@ pub enum Unkept<'a> {
     /// This line of the text, counted from 1, is bad.
     #[error("history line {0}")]
     Line(usize),
-    /// This entry, counted from 1, is not legal where it stands.
+    /// This entry, counted from 1, is illegal where it occurs.
     #[error("history change {0}")]
     Change(usize),
     /// The text has more than 65,536 entries.
@@ -36,7 +36,7 @@ pub enum Unkept<'a> {
     /// This line of the certificate's text, counted from 1, is bad.
     #[error("proof line {0}")]
     ProofLine(usize),
-    /// The certificate speaks of this version, and the history has so many changes, which are fewer.
+    /// The certificate is about this version, and the history has fewer changes: the second number.
     #[error("proof version {0}, the history has {1} changes")]
     Version(u32, usize),
     /// The answer can't be written.
@@ -45,7 +45,7 @@ pub enum Unkept<'a> {
 }
 
 impl Unkept<'_> {
-    // Why a text is no history.
+    // Returns the reason why a text is not a history.
     fn of_text(fault: ChronFault) -> Unkept<'static> {
         match fault {
             ChronFault::OutOfMemory => Unkept::OutOfMemory,
@@ -57,7 +57,7 @@ impl Unkept<'_> {
         }
     }
 
-    /// Why a file keeps no world.
+    /// Returns the reason why a file has no world.
     pub fn of_file(fault: KeptFault) -> Unkept<'static> {
         match fault {
             KeptFault::Empty => Unkept::Empty,
@@ -65,7 +65,7 @@ impl Unkept<'_> {
         }
     }
 
-    /// Why there is no map.
+    /// Returns the reason why there is no map.
     pub fn of_map(fault: NoMap) -> Unkept<'static> {
         match fault {
             NoMap::History(fault) => Unkept::of_file(fault),

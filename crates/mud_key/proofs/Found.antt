@@ -1,4 +1,4 @@
--- What the readers find is what the relations say.
+-- The readers find what the relations define.
 use Rattle.std.proofs.Common.{◌≡◌, ℕ, Bool, true, false, List, [], ◌∷◌, Option, Some, None, Ok, Err, Result, refl, sym}
 use Rattle.std.proofs.Common.{◌∙◌, ap, subst, arith, append-nil}
 use Rattle.std.specs.Prelude.{nat_le, if◌then◌else◌, ◌↔◌}
@@ -60,7 +60,7 @@ names_read text (Err BadName) found = λ names spelled.
 
 -- ---- one name
 
--- a text that is a name is the names text of that name
+-- a text that is a name is the names text of this name
 pub name_alone : (text : List ℕ) → IsName text → IsNamesText text (text ∷ [])
 name_alone text name =
     record {
@@ -69,7 +69,7 @@ name_alone text name =
       few = omega arith;
     }
 
--- a names text of only itself is a name
+-- a text that is the names text of itself is a name
 pub alone_name : (text : List ℕ) (names : List (List ℕ)) → IsNamesText text names → is_only text names ≡ true
     → IsName text
 alone_name text [] h e = absurd (cc)

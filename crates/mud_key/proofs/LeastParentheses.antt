@@ -1,4 +1,4 @@
--- What is printed is a key text of the key, with the least parentheses.
+-- A printed text is a key text of the key, with the fewest parentheses.
 use Rattle.std.proofs.Common.{◌≡◌, ℕ, suc, ◌+◌, ◌<◌, ◌≤◌, List, [], ◌∷◌, ◌++◌, append_assoc, arith, Result, Ok}
 use Rattle.std.proofs.Common.{ap, ◌∙◌}
 use Rattle.std.specs.Prelude.{codes, ◌^◌, ◌%◌}
@@ -16,7 +16,7 @@ use Rattle.mud_key.specs.Namer.{result_map, joined_result, resolved}
 use Rattle.mud_key.proofs.Complete.{one_key}
 use Rattle.mud_key.specs.Printed.{number_text, by_text, in_parentheses, printed, opens, ReadsBack}
 
--- a text that is an object as it stands
+-- a text that is an object without more
 abbrev pub IsObjectText : List ℕ → Type 0
 IsObjectText o = Spells Object o (Has o)
 

@@ -1,4 +1,4 @@
--- A text is a names text exactly where its parts are names of an object, and they are its names.
+-- A text is a names text exactly if its parts are the names of an object, and these are its names.
 use Rattle.std.proofs.Common.{◌≡◌, ◌≢◌, ℕ, zero, suc, ◌+◌, ◌<◌, Bool, true, false, List, [], ◌∷◌, ◌++◌, length, map}
 use Rattle.std.proofs.Common.{refl, sym, ◌∙◌, ap, subst, replicate, append_assoc, arith}
 use Rattle.std.specs.Prelude.{nat_eq, reverse, if◌then◌else◌}
@@ -16,7 +16,7 @@ use Rattle.mud_key.specs.inner.NamesTexts.{without_outer_spaces}
 use Rattle.mud_key.specs.Commas.{without_leading_spaces, parts_of}
 use Rattle.mud_key.proofs.Spaces.{none_in_front}
 
--- ---- a name with spaces round it, without its outer spaces
+-- ---- trimming a name with spaces around it
 
 reverse-spaces : (n : ℕ) → reverse {A = ℕ} (replicate n SPACE) ≡ replicate n SPACE
 reverse-spaces zero = refl
@@ -56,7 +56,7 @@ name_without_spaces text name h =
     ∙ ap reverse (without-spaces h.behind (reverse name) ∙ keeps_last name front last ends no_end)
     ∙ reverse-reverse name
 
--- ---- it has no comma
+-- ---- a name contains no comma
 
 abbrev IsNoComma : ℕ → Type 0
 IsNoComma b = nat_eq b COMMA ≡ false
@@ -126,7 +126,7 @@ spells_parts (x ∷ y ∷ rest) some each =
     (spells_parts (y ∷ rest) (omega arith)
     (All-tail IsName (without_outer_spaces x) (map without_outer_spaces (y ∷ rest)) each)))
 
--- a text whose parts are names of an object is a names text, of them
+-- if the parts of a text are names of an object, the text is a names text of these names
 pub parts_are_names : (text : List ℕ) → AreNames (parts_of text) → IsNamesText text (parts_of text)
 parts_are_names text h = record {
   spells = subst (λ z. SpellsNames z (parts_of text)) (join_with_byte-slice_split COMMA text)

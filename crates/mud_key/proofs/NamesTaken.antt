@@ -1,4 +1,4 @@
--- The reader of names takes each names text.
+-- The reader of names accepts each names text.
 use Rattle.std.proofs.Common.{◌≡◌, ◌≢◌, ℕ, zero, suc, ◌+◌, ◌<◌, ◌≤◌, Bool, true, false, Option, Some, None, List, []}
 use Rattle.std.proofs.Common.{◌∷◌, ◌++◌, length, take, drop, get_or, refl, sym, ◌∙◌, ap, subst, replicate, append_assoc}
 use Rattle.std.proofs.Common.{length-append, arith}
@@ -211,7 +211,7 @@ spaces_behind list t n (suc m) some =
         → StandsBehind list t (name_run (Named list t n) (replicate (suc m) SPACE))
     on m (i, e) rest = subst (λ s. StandsBehind list t (name_run s (replicate m SPACE))) (sym e) (rest i)
 
--- a name with spaces round it
+-- a name with spaces around it
 takes_spelled : (list : List (List ℕ)) (x name : List ℕ) → SpellsName x name
     → StandsBehind list name (name_run (Named list [] 0) x)
 takes_spelled list x name h =
@@ -266,12 +266,12 @@ takes_names (more {x = x} {n = n} {y = y} {ns = ns} h s) list room =
     (subst (λ z. Takes z (name_run (Named (list ++ n ∷ []) [] 0) y)) (append_assoc list (n ∷ []) ns)
     (takes_names s (list ++ n ∷ []) (omega (arith, room, length-append list (n ∷ [])))))
 
--- a names text is read to its end
+-- a names text is accepted to its end
 pub names_taken : (text : List ℕ) (names : List (List ℕ)) → IsNamesText text names
     → Takes names (name_run (Some name_start) text)
 names_taken text names h = takes_names h.spells [] (omega (arith, h.few))
 
--- the text of which the reader refuses a byte is no names text
+-- a text with a byte that the reader rejects is not a names text
 pub refused_names : (text : List ℕ) (i d : ℕ) (s : Stand) → i < length text
     → name_run (Some name_start) (take i text) ≡ Some s → name_next (Some s) (get_or text i d) ≡ None
     → IsNoNamesText text
@@ -289,7 +289,7 @@ refused_names text i d s l e f names h = go (names_taken text names h)
     go : Takes names (name_run (Some name_start) text) → ⊥
     go (t, same, done) = absurd (let both : ◌≡◌ {A = Option Stand} None (Some t) = sym never ∙ same in cc)
 
--- the text at whose end no name stands is no names text
+-- a text that does not end with a name is not a names text
 pub unsettled_names : (text : List ℕ) (s : Stand) → name_run (Some name_start) text ≡ Some s → names_at_end s ≡ None
     → IsNoNamesText text
 unsettled_names text s e f names h = go (names_taken text names h)
@@ -319,7 +319,7 @@ each_name (more {n = n} {ns = ns} h s) = All-cons IsName n ns h.is_name (each_na
 pub are_names : (text : List ℕ) (names : List (List ℕ)) → IsNamesText text names → AreNames names
 are_names text names h = record { some = names_some h.spells; few = h.few; each = each_name h.spells }
 
--- a text is the names text of one list at most
+-- a text is the names text of at most one list
 pub one_list : (text : List ℕ) (names others : List (List ℕ)) → IsNamesText text names → IsNamesText text others
     → names ≡ others
 one_list text names others h i = go (names_taken text names h) (names_taken text others i)

@@ -1,4 +1,4 @@
--- A resolved key counts what its text counts.
+-- A resolved key has the counts of its text.
 use Rattle.std.proofs.Common.{◌≡◌, ℕ, ◌+◌, List, ◌≤◌, Result, Ok, Err, refl, subst, arith}
 use Rattle.mud_key.specs.declared.limits.TheConstants.{LAST_NUMBER}
 use Rattle.mud_key.specs.declared.namer.Miss.{Miss}
@@ -6,7 +6,7 @@ use Rattle.mud_key.specs.declared.operator.Operator.{Operator}
 use Rattle.mud_key.specs.Tree.{Tree, Has, Asks, Not, Join, objects_of, nots_of, AllObjects, IsWithinLimits, IsKey}
 use Rattle.mud_key.specs.Namer.{result_map, joined_result, resolved}
 
--- so many objects and so many `!`, where the key was resolved
+-- the key has these numbers of objects and of `!`, if it was resolved
 abbrev pub CountsAs : ℕ → ℕ → Result (Tree ℕ) Miss → Type 0
 CountsAs objects nots (Ok k) = (objects_of k ≡ objects) × (nots_of k ≡ nots)
 CountsAs objects nots (Err e) = Unit {0}
@@ -29,7 +29,7 @@ join_counts op o n p m (Ok a) (Ok b) h i = (omega (arith, h.0, i.0), omega (arit
 join_counts op o n p m (Ok a) (Err e) h i = tt
 join_counts op o n p m (Err e) s h i = tt
 
--- a key counts what the text that it was resolved from counts
+-- a key has the counts of the text that it was resolved from
 pub resolved_counts : (meaning : List ℕ → Result ℕ Miss) (t : Tree (List ℕ))
     → CountsAs (objects_of t) (nots_of t) (resolved meaning t)
 resolved_counts meaning (Has o) = has_counts (meaning o)
@@ -39,7 +39,7 @@ resolved_counts meaning (Join op a b) =
     join_counts op (objects_of a) (nots_of a) (objects_of b) (nots_of b) (resolved meaning a) (resolved meaning b)
     (resolved_counts meaning a) (resolved_counts meaning b)
 
--- a key that was resolved from a key text, to numbers
+-- a key text resolves to numbers
 pub resolved_key : (meaning : List ℕ → Result ℕ Miss) (t : Tree (List ℕ)) (k : Tree ℕ) → resolved meaning t ≡ Ok k
     → IsWithinLimits t → AllObjects (λ n. n ≤ LAST_NUMBER) k → IsKey k
 resolved_key meaning t k e h numbers =

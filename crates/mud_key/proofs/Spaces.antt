@@ -1,4 +1,4 @@
--- What std's cutting at spaces gives is the text without them.
+-- The library's trimming of spaces removes exactly the spaces at the ends.
 use Rattle.std.proofs.Common.{◌≡◌, ◌≢◌, ℕ, ◌-◌, Bool, true, false, Some, None, List, [], ◌∷◌, ◌++◌, length, take, drop}
 use Rattle.std.proofs.Common.{refl, sym, ◌∙◌, ap, lit<, arith}
 use Rattle.std.specs.Prelude.{nat_eq, reverse, if◌then◌else◌}
@@ -11,7 +11,7 @@ use Rattle.std.specs.Str.Pattern.{IsTrimStartMatches, IsTrimEndMatches}
 use Rattle.std.proofs.lemmas.Str.Pattern.{drop_at_char}
 use Rattle.mud_key.specs.Commas.{without_leading_spaces}
 
--- ---- in front
+-- ---- leading spaces
 
 same_behind_cuts : (s : List ℕ) (ns : List ℕ) (r : List ℕ) → CutsPrefixes (FindsCharPrefix 32) s ns r
     → without_leading_spaces s ≡ without_leading_spaces r
@@ -39,7 +39,7 @@ none_left r (Some n, h, u) =
 pub trimmed_in_front : (s r : List ℕ) → IsTrimStartMatches (FindsCharPrefix 32) s r → r ≡ without_leading_spaces s
 trimmed_in_front s r ((ns, cuts), full) = sym (same_behind_cuts s ns r cuts ∙ none_left r full)
 
--- ---- at the end
+-- ---- trailing spaces
 
 last_space : (m : List ℕ) (n : ℕ) → FindsCharSuffix 32 m (Some n) → m ≡ take (length m - n) m ++ 32 ∷ []
 last_space m n h =

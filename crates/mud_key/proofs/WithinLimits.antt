@@ -1,4 +1,4 @@
--- What is counted in a text is counted in its key.
+-- The counts of a text are those of its key.
 use Rattle.std.proofs.Common.{◌≡◌, ℕ, ◌≤◌, List, ap, arith}
 use Rattle.mud_key.specs.declared.limits.TheConstants.{MOST_OBJECTS, MOST_NOTS}
 use Rattle.mud_key.specs.declared.scan.Scan.{Scan}

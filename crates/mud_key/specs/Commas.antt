@@ -3,7 +3,7 @@ use Rattle.std.specs.Prelude.{ℕ, List, [], ◌∷◌, map, reverse, nat_eq, if
 use Rattle.std.specs.List.{slice_split}
 use Rattle.mud_key.specs.declared.codes.TheConstants.{SPACE, COMMA}
 
--- the text without the spaces in front of it
+-- the text without its leading spaces
 abbrev pub without_leading_spaces : List ℕ → List ℕ
 without_leading_spaces [] = []
 without_leading_spaces (b ∷ text) = if nat_eq b SPACE then without_leading_spaces text else b ∷ text

@@ -1,5 +1,5 @@
--- What the readers find, as functions of the text, for definitions that compute with it. By
--- the laws of this crate they find exactly what the relations say.
+-- The results of the readers as functions of the text, for definitions that compute with them. By the laws of this
+-- crate these are exactly the results of the relations.
 use Rattle.std.specs.Prelude.{◌≡◌, ℕ, List, Option, Some, None, Result, Ok, Err}
 use Rattle.std.specs.Prelude.{if◌then◌else◌}
 use Rattle.std.specs.Option.{option_and_then}
@@ -14,27 +14,27 @@ use Rattle.mud_key.specs.inner.Machine as machine
 use Rattle.mud_key.specs.inner.Builder.{outer_settled}
 use Rattle.mud_key.specs.inner.Limits.{is_within_limits}
 
--- the names of a text, where it is a names text. A reader need not look into this: `laws::names` says what it finds
+-- the names of a names text. A reader need not look into this: the law `laws::names` characterizes it
 unfoldable pub names_in : List ℕ → Option (List (List ℕ))
 names_in text = option_and_then names_at_end (name_run (Some name_start) text)
 
--- the name that a text is, where it is one. A reader need not look into this: `laws::name` says what it finds
+-- the name that a text is, if it is one. A reader need not look into this: the law `laws::name` characterizes it
 unfoldable pub name_in : List ℕ → Option (List ℕ)
 name_in text = option_and_then (λ names. if is_only text names then Some text else None) (names_in text)
 
--- the key of a key text within the limits. A reader need not look into this: `laws::key` says what it finds
+-- the key of a key text within the limits. A reader need not look into this: the law `laws::key` characterizes it
 unfoldable pub key_in : List ℕ → Option (Tree (List ℕ))
 key_in text =
     option_and_then (λ key. if is_within_limits key then Some key else None)
     (option_and_then (λ s. outer_settled s.0 s.1) (machine.run machine.start text))
 
--- unless memory ran out, what is in the text was found, or a fault where nothing is
+-- unless memory ran out, the result is the value found, or a fault if there is none
 abbrev pub Finds : {A : Type 0} → Option A → Result A NamesFault → Type 0
 Finds found (Ok it) = found ≡ Some it
 Finds found (Err NoMemory) = Unit {0}
 Finds found (Err BadName) = found ≡ None
 
--- unless memory ran out, the key that was found, or a fault where there is none
+-- unless memory ran out, the result is the key found, or a fault if there is none
 abbrev pub FindsKey : List ℕ → Result (Tree (List ℕ)) KeyFault → Type 0
 FindsKey text (Ok key) = key_in text ≡ Some key
 FindsKey text (Err OutOfMemory) = Unit {0}

@@ -1,4 +1,4 @@
--- Key texts: which text stands for which key, with no reading position.
+-- Key texts: the texts that spell a key, without a reading position.
 use Rattle.std.specs.Prelude.{ℕ, ◌<◌, ◌≤◌, List, ◌++◌, length, take, codes, Result, Ok, Err}
 use Rattle.std.specs.List.{All}
 use Rattle.mud_key.specs.declared.codes.TheConstants.{ZERO, NINE}
@@ -21,13 +21,14 @@ abbrev pub sign : Operator → List ℕ
 sign And = codes "&&"
 sign Or = codes "||"
 
--- what a text may stand as: an object, a unary, or a chain of unaries
+-- the levels of the grammar: an object, a unary, or a chain of unaries
 pub data Level : Type 0 where
   Object : Level
   Unary : Level
   Chain : Level
 
--- at a level, a text stands for a tree; a join has a chain on its left and a unary on its right: it groups leftwards
+-- a text spells a tree at a level. A join has a chain on its left and a unary on its right, so operators group from the
+-- left
 pub data Spells : Level → List ℕ → Tree (List ℕ) → Type 0 where
   number : {digits : List ℕ} → IsNumberText digits → Spells Object (codes "#" ++ digits) (Has (codes "#" ++ digits))
   name : {text : List ℕ} → IsNameText text → Spells Object text (Has text)
@@ -41,24 +42,24 @@ pub data Spells : Level → List ℕ → Tree (List ℕ) → Type 0 where
   space_before : {l : Level} {x : List ℕ} {k : Tree (List ℕ)} → Spells l x k → Spells l (codes " " ++ x) k
   space_behind : {l : Level} {x : List ℕ} {k : Tree (List ℕ)} → Spells l x k → Spells l (x ++ codes " ") k
 
--- the text is a key text, of this key
+-- the text is a key text of this key
 abbrev pub SpellsKey : List ℕ → Tree (List ℕ) → Type 0
 SpellsKey text key = Spells Chain text key
 
--- some text goes on from this one to a key text
+-- the text is a prefix of some key text
 pub record BeginsKeyText (front : List ℕ) : Type 0 where
   pub rest : List ℕ
   pub key : Tree (List ℕ)
   pub whole : SpellsKey (front ++ rest) key
 
--- n is the length of the longest front of the text that begins some key text
+-- n is the length of the longest prefix of the text that begins some key text
 pub record IsLongestFront (text : List ℕ) (n : ℕ) : Type 0 where
   pub within : n ≤ length text
   pub begins : BeginsKeyText (take n text)
   pub longest : (m : ℕ) → m ≤ length text → BeginsKeyText (take m text) → m ≤ n
 
--- `read` answered the key of the text, within the limits; or the length of the longest front of a text that is no key
--- text; or, of a key text beyond the limits, that it has too many atoms; unless memory ran out
+-- unless memory ran out, `read` returned the key of a text within the limits, or TooManyAtoms for a key text beyond
+-- them, or the length of the longest prefix that begins some key text
 abbrev pub ReadsAs : List ℕ → Result (Tree (List ℕ)) KeyFault → Type 0
 ReadsAs text (Ok key) = SpellsKey text key × IsWithinLimits key
 ReadsAs text (Err OutOfMemory) = Unit {0}

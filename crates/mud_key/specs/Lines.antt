@@ -1,4 +1,4 @@
--- Lines of the texts that programs hand on, as histories and proofs are.
+-- Lines of text formats, such as histories and proofs.
 use Rattle.std.specs.Prelude.{◌≢◌, ℕ, List, All}
 use Rattle.mud_key.specs.declared.codes.TheConstants.{LF}
 

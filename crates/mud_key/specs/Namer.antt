@@ -1,4 +1,4 @@
--- What a key's texts name.
+-- The resolution of a key's texts.
 use Rattle.std.specs.Prelude.{◌≡◌, ℕ, List, Result, Ok, Err}
 use Rattle.mud_key.specs.declared.namer.Miss.{Miss}
 use Rattle.mud_key.specs.declared.namer.Miss.TheVariants as miss
@@ -7,7 +7,7 @@ use Rattle.mud_key.specs.declared.key_fault.KeyFault.TheVariants.{OutOfMemory, N
 use Rattle.mud_key.specs.declared.operator.Operator.{Operator}
 use Rattle.mud_key.specs.Tree.{Tree, Has, Asks, Not, Join}
 
--- f of the value, or the same miss
+-- f of the value, or the miss unchanged
 abbrev pub result_map : {A B : Type 0} → (A → B) → Result A Miss → Result B Miss
 result_map f (Ok x) = Ok (f x)
 result_map f (Err e) = Err e
@@ -17,14 +17,14 @@ abbrev pub joined_result : Operator → Result (Tree ℕ) Miss → Result (Tree 
 joined_result op (Ok a) b = result_map (λ k. Join op a k) b
 joined_result op (Err e) b = Err e
 
--- the key with each object replaced by the number that it means, or the first miss in the order of the text
+-- the key with each object replaced by its number, or the first miss in the order of the text
 abbrev pub resolved : (List ℕ → Result ℕ Miss) → Tree (List ℕ) → Result (Tree ℕ) Miss
 resolved meaning (Has o) = result_map Has (meaning o)
 resolved meaning (Asks o) = result_map Asks (meaning o)
 resolved meaning (Not k) = result_map Not (resolved meaning k)
 resolved meaning (Join op a b) = joined_result op (resolved meaning a) (resolved meaning b)
 
--- `resolve` answered what was resolved, unless memory ran out
+-- unless memory ran out, `resolve` returned this result
 abbrev pub ResolvesAs : Result (Tree ℕ) Miss → Result (Tree ℕ) KeyFault → Type 0
 ResolvesAs r (Ok k) = r ≡ Ok k
 ResolvesAs r (Err OutOfMemory) = Unit {0}

@@ -6,12 +6,12 @@ use Rattle.mud_key.specs.declared.texts.Texts.{Texts}
 use Rattle.mud_key.specs.declared.texts.Texts.TheVariants.{One, Several}
 use Rattle.mud_key.specs.Name.{IsName}
 
--- the texts of names, in their order: of one name, or of several
+-- the texts of one name or of several, in order
 abbrev pub texts_of : Texts → List (List ℕ)
 texts_of (One text) = string_bytes text ∷ []
 texts_of (Several texts) = map string_bytes texts.items
 
--- what is true of the names of an object: there are 1 to 4 of them, and each is a name
+-- the names of an object: there are 1 to 4, and each is a name
 pub record AreNames (names : List (List ℕ)) : Type 0 where
   pub some : 0 < length names
   pub few : length names ≤ MOST_NAMES

@@ -1,11 +1,11 @@
--- What a node of a key is seen as: the tree, without where it lies in memory.
+-- The model of a node: the tree, without its addresses in memory.
 use Rattle.std.specs.Prelude.{ℕ, List, String, string_bytes}
 use Rattle.std.specs.declared.alloc.Global.{Global}
 use Rattle.mud_key.specs.declared.node.Node.{Node}
 use Rattle.mud_key.specs.declared.node.Node.TheVariants as node
 use Rattle.mud_key.specs.Tree.{Tree, Has, Asks, Not, Join}
 
--- the tree of a node, each object seen by f; boxes leave no trace
+-- the tree of a node, with f applied to each object; boxes leave no trace
 abbrev pub tree_of : {O V : Type 0} → (O → V) → Node O → Tree V
 tree_of f (node.Has o) = Has (f o)
 tree_of f (node.Asks o) = Asks (f o)

@@ -1,4 +1,4 @@
-//! The parts of a text at its commas.
+//! Splits a text at its commas.
 
 ghost use Rattle.std.specs.Prelude.{◌≡◌, IfOk, map, string_bytes};
 ghost use Rattle.mud_key.specs.Commas.{parts_of};
@@ -6,9 +6,8 @@ ghost use Rattle.mud_key.specs.inner.NamesTexts.{without_outer_spaces};
 
 use std::alloc::{AllocError, Global};
 
-/// The parts of the text: what stands between its commas, each without the spaces at its ends.
-/// A text without a comma is one part, and a part may be empty. Every other character is kept,
-/// also one past ASCII (docs/KEYS.md, "Parts").
+/// Splits the text at its commas, and trims the spaces at both ends of each part. A text without a comma is one part,
+/// and a part may be empty. Every other character is kept, ASCII or not (docs/KEYS.md, "Parts").
 pub fn parts(alloc: Global, text: &str) -> Result<Vec<String>, AllocError>
     ensures { IfOk result (λ parts. map string_bytes parts.items ≡ parts_of text.now) }
 {
@@ -19,7 +18,7 @@ pub fn parts(alloc: Global, text: &str) -> Result<Vec<String>, AllocError>
     Ok(parts)
 }
 
-/// The text without the spaces at its ends.
+/// Returns the text without leading and trailing spaces.
 fn without_outer_spaces(text: &str) -> &str
     ensures { result.now ≡ without_outer_spaces text.now }
 {

@@ -1,4 +1,4 @@
-//! A key over objects.
+//! Keys over object numbers.
 
 ghost use Rattle.std.specs.Prelude.{◌≡◌, ◌++◌, IfOk, OnOk};
 ghost use Rattle.mud_key.specs.Tree.{Not, Join, IsKey, atoms_of, asks_of};
@@ -9,8 +9,8 @@ use crate::operator::Operator;
 use std::alloc::{AllocError, Global};
 use std::marker::Model;
 
-/// A key: its objects are numbers from 0 to 8,191. It has at most 16 objects and 64 `!`
-/// (docs/KEYS.md, "Keys"). A contract sees its tree.
+/// A key over objects with numbers from 0 to 8,191. It has at most 16 objects and 64 `!` (docs/KEYS.md, "Keys"). A
+/// contract sees its tree.
 #[derive(Drop)]
 pub struct Key {
     tree: Node<u32>,
@@ -32,7 +32,7 @@ impl Model for Key {
 }
 
 impl Key {
-    /// The key with this node on top.
+    /// Returns the key with this root.
     pub(crate) fn of(tree: Node<u32>) -> Key
         requires { IsKey (key_of tree) }
         ensures { result ≡ key_of tree }
@@ -40,7 +40,7 @@ impl Key {
         Key { tree }
     }
 
-    /// The node on top, from which a recursion goes down.
+    /// Returns the root of the tree, for a recursive descent.
     pub fn node(&self) -> &Node<u32>
         ensures node { key_of result.now ≡ self.now }
         ensures key { IsKey self.now }
@@ -48,7 +48,7 @@ impl Key {
         &self.tree
     }
 
-    /// An equal key.
+    /// Returns an equal key.
     pub fn copy(&self, alloc: Global) -> Result<Key, AllocError>
         ensures { IfOk result (λ key. key ≡ self.now) }
     {
@@ -71,14 +71,14 @@ fn copy_node(alloc: Global, node: &Node<u32>) -> Result<Node<u32>, AllocError>
     }
 }
 
-/// `!` and a key.
+/// Returns `!` applied to a key.
 pub(crate) fn not(alloc: Global, k: Node<u32>) -> Result<Node<u32>, AllocError>
     ensures { IfOk result (λ n. key_of n ≡ Not (key_of k)) }
 {
     Ok(Node::Not(Box::new(alloc, k)?))
 }
 
-/// Two keys and the sign between them.
+/// Returns two keys joined by an operator.
 pub(crate) fn join(
     alloc: Global,
     operator: Operator,
@@ -91,7 +91,7 @@ pub(crate) fn join(
     Ok(Node::Join(operator, a, Box::new(alloc, b)?))
 }
 
-/// The objects, each as often as it stands in the key, in the order of its text.
+/// Returns the objects in the order of the key's text, one for each occurrence.
 pub fn atoms(alloc: Global, key: &Key) -> Result<Vec<u32>, AllocError>
     ensures { IfOk result (λ v. v.items ≡ atoms_of key.now) }
 {
@@ -116,7 +116,7 @@ fn push_atoms(out: &mut Vec<u32>, node: &Node<u32>) -> Result<(), AllocError>
     }
 }
 
-/// The objects after `?`, each as often as it stands there, in the order of the text.
+/// Returns the objects after `?` in the order of the key's text, one for each occurrence.
 pub fn asks(alloc: Global, key: &Key) -> Result<Vec<u32>, AllocError>
     ensures { IfOk result (λ v. v.items ≡ asks_of key.now) }
 {

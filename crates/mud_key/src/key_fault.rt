@@ -1,24 +1,24 @@
-//! Why there is no key.
+//! The faults of reading a key.
 
 use std::alloc::{AllocError, AllocFailed};
 use thiserror::Error;
 
-/// Why a text gave no key (docs/KEYS.md, "Faults").
+/// The reason why a text gives no key (docs/KEYS.md, "Faults").
 #[derive(Debug, Drop, Error)]
 pub enum KeyFault {
-    /// Memory ran out.
+    /// An allocation failed.
     #[error("out of memory")]
     OutOfMemory,
-    /// The text is no key text. So many of its bytes, and no more, begin some key text.
+    /// The text is not a key text. The number is the length of the longest prefix that begins some key text.
     #[error("no key from byte {0} on")]
     BadKey(usize),
     /// The text is a key text of more than 16 objects or more than 64 `!`.
     #[error("too many objects or `!`")]
     TooManyAtoms,
-    /// The first object of the text that is missed names nothing.
+    /// The first object of the text that can't be resolved names nothing.
     #[error("an object of the key isn't there")]
     NoSuch,
-    /// The first object of the text that is missed names several.
+    /// The first object of the text that can't be resolved names several objects.
     #[error("an object of the key is ambiguous")]
     Ambiguous,
 }

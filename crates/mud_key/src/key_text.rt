@@ -1,4 +1,4 @@
-//! A key as it is written.
+//! Keys as they are written.
 
 ghost use Rattle.std.specs.Prelude.{◌≡◌};
 ghost use Rattle.mud_key.specs.Tree.{IsWithinLimits};
@@ -14,8 +14,8 @@ use crate::scan::scan_text;
 use std::alloc::Global;
 use std::marker::Model;
 
-/// A key as it was written: its objects are texts. It has at most 16 objects and 64 `!`
-/// (docs/KEYS.md, "Keys"). A contract sees its tree.
+/// A key as it was written: its objects are texts. It has at most 16 objects and 64 `!` (docs/KEYS.md, "Keys"). A
+/// contract sees its tree.
 #[derive(Drop)]
 pub struct KeyText {
     tree: Node<String>,
@@ -37,8 +37,8 @@ impl Model for KeyText {
 }
 
 impl KeyText {
-    /// The node on top, from which a recursion goes down. Its objects are the texts as they were
-    /// written, without the spaces at their ends: `#` and its digits, or a name.
+    /// Returns the root of the tree, for a recursive descent. Its objects are the texts as they were written, without
+    /// spaces at their ends: `#` and digits, or a name.
     pub fn node(&self) -> &Node<String>
         ensures node { reading_of result.now ≡ self.now }
         ensures limits { IsWithinLimits self.now }
@@ -47,9 +47,9 @@ impl KeyText {
     }
 }
 
-/// The key that the text stands for. Exactly the key texts within the limits are read. A text that
-/// is no key text is `BadKey`, whatever it counts; a key text beyond the limits is `TooManyAtoms`
-/// (docs/KEYS.md, "Keys" and "Faults"). Its time is linear in the text, also for a million `(`.
+/// Reads a key text, and accepts exactly those within the limits. A text that is not a key text gives `BadKey`,
+/// whatever its counts; a key text beyond the limits gives `TooManyAtoms` (docs/KEYS.md, "Keys" and "Faults"). The time
+/// is linear in the text, even for a million `(`.
 pub fn read(alloc: Global, text: &str) -> Result<KeyText, KeyFault>
     ensures reads { ReadsAs text.now result }
     ensures finds { FindsKey text.now result }

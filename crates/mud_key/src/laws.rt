@@ -1,4 +1,4 @@
-//! Facts about definitions only.
+//! Laws of the definitions. Each contract is a law, and its function does nothing.
 
 ghost use Rattle.std.specs.Prelude.{◌≡◌};
 ghost use Rattle.mud_key.specs.Laws.{AreTheNames, IsTheName, IsTheKey};
@@ -7,22 +7,22 @@ ghost use Rattle.mud_key.specs.declared.limits.TheConstants.{MOST_NOTS, MOST_DIG
 ghost use Rattle.mud_key.specs.declared.codes.TheConstants.{SPACE, TILDE, SHARP, COMMA, PARENTHESIS};
 ghost use Rattle.mud_key.specs.declared.codes.TheConstants.{ZERO, NINE, LF, CR};
 
-/// The names that are found in a text are its parts, where these are 1 to 4 names, and no others are.
+/// The names in a text are its parts, if there are 1 to 4 and each is a name. Otherwise there are no names in it.
 pub fn names()
     ensures { AreTheNames }
 {}
 
-/// A name is found exactly in the text that it is.
+/// A text is found to be a name exactly if it is one.
 pub fn name()
     ensures { IsTheName }
 {}
 
-/// The key that is found in a text is that of the key text, within the limits, and no other is.
+/// The key found in a text is the key that the text spells, if it is within the limits. No other key is found.
 pub fn key()
     ensures { IsTheKey }
 {}
 
-/// The limits of names, keys and numbers.
+/// Promises the limits of names, keys and numbers.
 pub fn limits()
     ensures last_number { LAST_NUMBER ≡ 8191 }
     ensures most_names { MOST_NAMES ≡ 4 }
@@ -33,7 +33,7 @@ pub fn limits()
     ensures amounts { AMOUNTS ≡ 1000000000 }
 {}
 
-/// The bytes that have a name are those of USASCII.
+/// Promises that the named bytes have the values of US-ASCII.
 pub fn codes()
     ensures space { SPACE ≡ 32 }
     ensures tilde { TILDE ≡ 126 }

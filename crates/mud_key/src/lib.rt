@@ -1,22 +1,22 @@
-//! Names of objects, and keys: the expressions that a lock holds.
+//! Names of objects, and keys: the expressions of locks.
 //!
-//! An object has 1 to 4 names, which are read from a names text as `brass key, key`. A lock holds
-//! a key, an expression over objects as `#4 || #1 && ?chest`. The manner of keys is that of
-//! LambdaCore; the grammar, the limits and the rules of names are this project's own profile,
-//! and stand in docs/KEYS.md. [`limits`] has the limits as constants, and [`codes`] the bytes that have a name.
+//! An object has 1 to 4 names, read from a names text such as `brass key, key`. A lock holds a key, an expression over
+//! objects such as `#4 || #1 && ?chest`. Keys are in the manner of LambdaCore. Their grammar, the limits and the rules
+//! of names are this project's own profile, in docs/KEYS.md. [`limits`] has the limits as constants, and [`codes`] the
+//! named bytes.
 //!
 //! | Call | What it does |
 //! |---|---|
-//! | [`Names::read`], [`Name::read`] | reads a names text, a single name |
-//! | [`Names::list`], [`Names::copy`] | the names, of which the first is shown, equal names |
-//! | [`Names::of`] | one name as names |
-//! | [`parts`] | cuts a text at its commas |
-//! | [`read`] | reads a key text: its objects stay texts |
-//! | [`resolve`] | replaces each text by the number of the object that a [`Namer`] gives |
-//! | [`print()`] | prints a key with the least parentheses |
-//! | [`atoms`], [`asks`] | lists the objects of a key, and those after `?` |
-//! | [`Key::node`], [`KeyText::node`] | the tree, to go down in |
-//! | [`Key::copy`] | an equal key |
+//! | [`Names::read`], [`Name::read`] | reads a names text, or a single name |
+//! | [`Names::list`], [`Names::copy`] | returns the names, the shown one first; copies them |
+//! | [`Names::of`] | makes one name into names |
+//! | [`parts`] | splits a text at its commas |
+//! | [`read`] | reads a key text; its objects stay texts |
+//! | [`resolve`] | replaces each text by the number of the object that a [`Namer`] returns |
+//! | [`print()`] | prints a key with the fewest parentheses |
+//! | [`atoms`], [`asks`] | lists the objects of a key, or those after `?` |
+//! | [`Key::node`], [`KeyText::node`] | returns the tree, for a recursive descent |
+//! | [`Key::copy`] | copies a key |
 //!
 //! ```text
 //! let names = mud_key::Names::read(alloc, " brass key, key ")?;
@@ -27,11 +27,11 @@
 //! mud_key::read(alloc, "#4 || #1x")                    // BadKey(8)
 //! ```
 //!
-//! What is proved: exactly the names texts and exactly the key texts within the limits are read, with the names and the
-//! tree that the definitions give, which are the only ones; each fault comes exactly where its condition holds; the
-//! printed text is that of the definition, has as few parentheses as any text of the key, and reads back as the key;
-//! the rest answers as its definition says. Where memory runs out, that is an error of its own; no argument changes.
-//! No call recurses along a text that comes from outside: a reader keeps its own stack on the heap.
+//! Proved: the readers accept exactly the names texts and the key texts within the limits, and return the names and the
+//! tree of the definitions, which are unique. Each fault occurs exactly under its condition. The printed text is that
+//! of the definition, has as few parentheses as any text of the key, and reads back as the key. The other calls return
+//! what their definitions say. Out of memory is an error of its own, and leaves every argument unchanged. No call
+//! recurses along a text from outside: the readers keep their stack on the heap.
 #![tactic(auto)]
 
 mod builder;

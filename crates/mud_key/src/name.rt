@@ -1,4 +1,4 @@
-//! A single name.
+//! Single names.
 
 ghost use Rattle.std.specs.Prelude.{◌≡◌, IfOk, map, string_bytes};
 ghost use Rattle.mud_key.specs.Name.{IsName};
@@ -28,8 +28,7 @@ impl Model for Name {
 }
 
 impl Name {
-    /// The name that a text is. No space is dropped, and no comma parts it: exactly the names are
-    /// read.
+    /// Reads a text as one name. Spaces are not trimmed and commas do not separate: exactly the names are accepted.
     pub fn read(alloc: Global, text: &str) -> Result<Name, NamesFault>
         ensures finds { Finds (name_in text.now) result }
     {
@@ -46,7 +45,7 @@ impl Name {
         }
     }
 
-    /// The text of the name.
+    /// Returns the text of the name.
     pub fn as_str(&self) -> &str
         ensures text { result.now ≡ self.now }
         ensures name { IsName self.now }
@@ -54,11 +53,11 @@ impl Name {
         &self.text
     }
 
-    /// An equal name.
+    /// Returns an equal name.
     pub fn copy(&self, alloc: Global) -> Result<Name, AllocError>
         ensures { IfOk result (λ name. name ≡ self.now) }
     {
-        // for the prover: reading the field says that the text is a name
+        // for the prover: reading the field shows that the text is a name
         let _known = &self.text;
         Ok(Name {
             text: self.text.clone()?,
@@ -66,7 +65,7 @@ impl Name {
     }
 }
 
-// Whether the names are only this text.
+// Returns whether the names are this one text.
 fn is_only(text: &str, names: &[String]) -> bool
     ensures { result ≡ is_only text.now (map string_bytes names.now) }
 {

@@ -1,4 +1,4 @@
-//! What the texts of a key name.
+//! Resolves the texts of a key.
 
 ghost use Rattle.std.specs.Prelude.{◌≡◌, ◌≤◌, ℕ, List, Result, Ok, Err, IfOk, MatchResult};
 ghost use Rattle.mud_key.specs.declared.limits.TheConstants.{LAST_NUMBER};
@@ -15,30 +15,30 @@ use crate::node::Node;
 use std::alloc::Global;
 use thiserror::Error;
 
-/// Why a text names no object (docs/KEYS.md, "Faults").
+/// The reason why a text names no object (docs/KEYS.md, "Faults").
 #[derive(Clone, Copy, PartialEq, Eq, Debug, Error)]
 pub enum Miss {
-    /// It names nothing.
+    /// The text names nothing.
     #[error("it names nothing")]
     NoSuch,
-    /// It names several objects, and nothing says which is meant.
+    /// The text names several objects.
     #[error("it names several")]
     Ambiguous,
 }
 
-/// What names objects: a look-up by number, or a match among the things in reach. Its `meaning` is
-/// what it answers for each text.
+/// A resolver of object texts: a look-up by number, or a match among the things in reach. `meaning` is its result for
+/// each text.
 pub trait Namer {
     ghost meaning: { Self → List ℕ → Result ℕ Miss };
 
-    /// The number of the object that the text names, from 0 to 8,191.
+    /// Returns the number of the object that the text names, from 0 to 8,191.
     fn name(&self, text: &str) -> Result<u32, Miss>
         ensures means { result ≡ meaning self.now text.now }
         ensures number { IfOk result (λ n. n ≤ LAST_NUMBER) };
 }
 
-/// The key over the objects that the texts name, or the fault of the first text, in order, that
-/// names none (docs/KEYS.md, "Faults"). It answers no `BadKey` and no `TooManyAtoms`.
+/// Replaces each text of a key by the object that it names. The error is the fault of the first text, in order, that
+/// names no object (docs/KEYS.md, "Faults"), never `BadKey` or `TooManyAtoms`.
 pub fn resolve<N: Namer>(alloc: Global, key: &KeyText, namer: &N) -> Result<Key, KeyFault>
     ensures { ResolvesAs (resolved (N.meaning namer.now) key.now) result }
 {

@@ -12,13 +12,13 @@ use std::alloc::{AllocError, Global};
 use std::marker::Model;
 use thiserror::Error;
 
-/// Why a text gave no names (docs/KEYS.md, "Names").
+/// The reason why a text gives no names (docs/KEYS.md, "Names").
 #[derive(Debug, Drop, Error)]
 pub enum NamesFault {
-    /// Memory ran out.
+    /// An allocation failed.
     #[error("out of memory")]
     OutOfMemory,
-    /// The text is no names text: not 1 to 4 names.
+    /// The text is not a names text: it does not consist of 1 to 4 names.
     #[error("bad name")]
     BadName,
 }
@@ -34,8 +34,7 @@ impl From<AllocError> for NamesFault {
     }
 }
 
-/// The 1 to 4 names of an object, the first of which is shown (docs/KEYS.md, "Names"). A
-/// contract sees the list of their texts.
+/// The 1 to 4 names of an object; the first is shown (docs/KEYS.md, "Names"). A contract sees the list of their texts.
 #[derive(Drop)]
 pub struct Names {
     texts: Texts,
@@ -53,8 +52,8 @@ impl Model for Names {
 }
 
 impl Names {
-    /// The names of a text: separated by commas, with spaces round each, which are dropped.
-    /// Exactly the names texts are read (docs/KEYS.md, "Names"); any other text is `BadName`.
+    /// Reads names that commas separate, and trims the spaces around each. Exactly the names texts are accepted
+    /// (docs/KEYS.md, "Names"); any other text gives `BadName`.
     pub fn read(alloc: Global, text: &str) -> Result<Names, NamesFault>
         ensures finds { Finds (names_in text.now) result }
     {
@@ -77,7 +76,7 @@ impl Names {
         }
     }
 
-    /// One name as the names of an object.
+    /// Makes one name into the names of an object.
     pub fn of(alloc: Global, name: Name) -> Result<Names, AllocError>
         ensures { IfOk result (λ names. names ≡ name ∷ []) }
     {
@@ -87,7 +86,7 @@ impl Names {
         })
     }
 
-    /// The names, 1 to 4, in the order of their text.
+    /// Returns the names, 1 to 4, in the order of their text.
     pub fn list(&self) -> &[String]
         ensures list { map string_bytes result.now ≡ self.now }
         ensures names { AreNames self.now }
@@ -95,7 +94,7 @@ impl Names {
         self.texts.as_slice()
     }
 
-    /// Equal names.
+    /// Returns equal names.
     pub fn copy(&self, alloc: Global) -> Result<Names, AllocError>
         ensures { IfOk result (λ names. names ≡ self.now) }
     {

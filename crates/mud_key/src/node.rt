@@ -1,17 +1,17 @@
-//! One node of a key.
+//! Nodes of a key.
 
 use crate::operator::Operator;
 
-/// A node of a key over objects of one kind: texts where it is written, numbers where it is
-/// resolved. Parentheses leave no node (docs/KEYS.md, "Keys").
+/// A node of a key. Its objects are texts as written, or numbers as resolved. Parentheses leave no node (docs/KEYS.md,
+/// "Keys").
 #[derive(Drop)]
 pub enum Node<O> {
-    /// An object: true where it is the candidate or something that the candidate contains.
+    /// An object: true if it is the candidate, or inside the candidate at any depth.
     Has(O),
-    /// `?` and an object: true where the object exists and is unlocked for the candidate.
+    /// `?` and an object: true if the object exists and is unlocked for the candidate.
     Asks(O),
     /// `!` and a key.
     Not(Box<Node<O>>),
-    /// Two keys and the sign between them.
+    /// Two keys joined by an operator.
     Join(Operator, Box<Node<O>>, Box<Node<O>>),
 }

@@ -1,7 +1,7 @@
-//! The two signs that join keys.
+//! The operators of keys.
 
-/// What joins two keys: `&&`, where both must be true, or `||`, where one is enough.
-/// Neither binds closer than the other (docs/KEYS.md, "Keys").
+/// An operator: `&&` is true if both keys are, and `||` if at least one is. Neither binds closer than the other
+/// (docs/KEYS.md, "Keys").
 #[derive(Clone, Copy, PartialEq, Eq, Debug)]
 pub enum Operator {
     /// `&&`

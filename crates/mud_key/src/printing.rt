@@ -1,4 +1,4 @@
-//! A key's text.
+//! Prints keys.
 
 ghost use Rattle.std.specs.Prelude.{◌≡◌, ◌++◌, IfOk, OnOk, string_bytes, codes, ℕ, List, ◌≤◌};
 ghost use Rattle.mud_key.specs.KeyText.{sign, SpellsKey};
@@ -11,8 +11,8 @@ use crate::node::Node;
 use crate::operator::Operator;
 use std::alloc::{AllocError, Global};
 
-/// The text of the key, with the least parentheses, ` && `, ` || `, `!`, `?` and `#n`
-/// (docs/KEYS.md, "Printing"). Read and resolved, with each `#n` naming n, it is the key again.
+/// Prints the key with the fewest parentheses, ` && `, ` || `, `!`, `?` and `#n` (docs/KEYS.md, "Printing"). The text
+/// reads back as the key, if each `#n` is resolved to n.
 pub fn print(alloc: Global, key: &Key) -> Result<String, AllocError>
     ensures text { IfOk result (λ s. string_bytes s ≡ printed (by_text key.now)) }
     ensures reads_back { IfOk result (λ s. ReadsBack (string_bytes s) key.now) }
@@ -48,7 +48,7 @@ fn print_node(out: &mut String, node: &Node<u32>) -> Result<(), AllocError>
     }
 }
 
-/// The parenthesis before a key where a unary is wanted, if it needs one.
+/// Returns the opening parenthesis of a key in the place of a unary, if it needs one.
 fn opening(node: &Node<u32>) -> &'static str
     ensures { result.now ≡ opening_of (by_text (key_of node.now)) }
 {
@@ -58,7 +58,7 @@ fn opening(node: &Node<u32>) -> &'static str
     }
 }
 
-/// The parenthesis after a key where a unary is wanted, if it needs one.
+/// Returns the closing parenthesis of a key in the place of a unary, if it needs one.
 fn closing(node: &Node<u32>) -> &'static str
     ensures { result.now ≡ closing_of (by_text (key_of node.now)) }
 {
@@ -68,7 +68,7 @@ fn closing(node: &Node<u32>) -> &'static str
     }
 }
 
-/// The operator with a space on each side.
+/// Returns the operator with a space on each side.
 fn between(operator: Operator) -> &'static str
     ensures { result.now ≡ codes " " ++ sign operator ++ codes " " }
 {

@@ -1,19 +1,19 @@
-//! Where the reader of keys stands.
+//! Positions of the key reader.
 
 use crate::operator::Operator;
 
-/// Where the reader stands in the innermost open parentheses.
+/// The position inside the innermost open parenthesis.
 #[derive(Clone, Copy)]
 pub enum Stage {
-    /// A unary comes.
+    /// A unary is expected.
     Operand,
-    /// An object comes, after `?`.
+    /// An object is expected, after `?`.
     Asked,
     /// After a sharp and this many digits.
     Number(usize),
-    /// In a name, or at a space that may be in it.
+    /// In a name, or at a space that may belong to it.
     Named,
-    /// After a whole chain.
+    /// After a complete chain.
     After,
     /// After the first half of an operator.
     Half(Operator),

@@ -6,16 +6,16 @@ ghost use Rattle.mud_key.specs.Names.{texts_of};
 use std::alloc::{AllocError, Global};
 use std::slice;
 
-/// Texts in their order. Most objects have one name, and a text alone takes no memory for a list.
+/// A list of texts. Most objects have one name, and a single text needs no memory for a list.
 #[derive(Drop)]
 pub enum Texts {
-    /// A text alone.
+    /// A single text.
     One(String),
     /// Any number of texts.
     Several(Vec<String>),
 }
 
-// Equal texts.
+// Returns equal texts.
 fn copies(alloc: Global, texts: &[String]) -> Result<Vec<String>, AllocError>
     ensures { IfOk result (λ copies. map string_bytes copies.items ≡ map string_bytes texts.now) }
 {
@@ -27,7 +27,7 @@ fn copies(alloc: Global, texts: &[String]) -> Result<Vec<String>, AllocError>
 }
 
 impl Texts {
-    /// The texts, in their order.
+    /// Returns the texts in order.
     pub fn as_slice(&self) -> &[String]
         ensures { map string_bytes result.now ≡ texts_of self.now }
     {
@@ -37,7 +37,7 @@ impl Texts {
         }
     }
 
-    /// Equal texts.
+    /// Returns equal texts.
     pub fn copy(&self, alloc: Global) -> Result<Texts, AllocError>
         ensures { IfOk result (λ texts. texts_of texts ≡ texts_of self.now) }
     {

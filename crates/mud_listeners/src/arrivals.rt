@@ -1,4 +1,4 @@
-//! The connections that the listeners give.
+//! Accepts connections from the listeners.
 
 use crate::doors::Listeners;
 use crate::options::bound_waits;
@@ -11,38 +11,38 @@ use std::net::{SocketAddr, TcpListener, TcpStream};
 use std::sync::Wait;
 use std::time::Duration;
 
-// How long a listener is left alone after a fault, such as too many open files.
+// How long a listener rests after a fault, such as too many open files.
 const REST_MILLISECONDS: u64 = 100;
 
-/// The listeners, which are closed with this, and whether the last call for a connection was a fault.
+/// The listeners, which close when this is dropped, and whether the last call was a fault.
 #[derive(Drop)]
 pub struct Arrivals {
     telnet: TcpListener,
     web: Option<TcpListener>,
-    // Whose turn it is where both have a connection.
+    // The listener whose turn it is when both have a connection.
     is_web_next: bool,
     is_failing: bool,
 }
 
-/// What came of a call for a connection.
+/// The result of a call for a connection.
 #[derive(Drop)]
 pub enum Arrival {
-    /// A connection by Telnet, and the address of its other side.
+    /// A Telnet connection, and the address of its other side.
     Telnet(TcpStream, SocketAddr),
     /// A browser's connection, and the address of its other side.
     Web(TcpStream, SocketAddr),
-    /// None so far.
+    /// No connection so far.
     Nobody,
-    /// None, and none will ever come.
+    /// No connection, and there will never be one.
     Never,
 }
 
-// Whether a listener can never give a connection again: it is closed, or none.
+// Returns whether a listener can never give a connection again: it is closed, or is not a listener.
 fn is_for_good(error: &Error) -> bool {
     matches!(error.raw_os_error(), Some(EBADF | EINVAL | ENOTSOCK))
 }
 
-// By which way a connection would have come.
+// Returns the entrance of a connection as a word.
 fn way(entrance: Entrance) -> &'static str {
     match entrance {
         Entrance::Telnet => "by Telnet",
@@ -50,7 +50,7 @@ fn way(entrance: Entrance) -> &'static str {
     }
 }
 
-// Whether each call of the listener, if there is one, waits a moment only.
+// Sets the timeout of the listener's calls, if there is a listener. Returns whether it could be set.
 fn is_bound(listener: Option<&TcpListener>) -> bool {
     match listener {
         Some(listener) => bound_waits(listener),
@@ -59,8 +59,7 @@ fn is_bound(listener: Option<&TcpListener>) -> bool {
 }
 
 impl Arrivals {
-    /// The connections of the listeners, each of whose calls waits a moment only; where that can't be set, there are
-    /// none.
+    /// Returns the connections of the listeners, with a short timeout for each call, or `None` if that can't be set.
     pub fn new(listeners: Listeners) -> Option<Arrivals> {
         let Listeners { telnet, web } = listeners;
         if !bound_waits(&telnet) || !is_bound(web.as_ref()) {
@@ -83,7 +82,7 @@ impl Arrivals {
         }
     }
 
-    // Where the next connection is to be taken. Without a door on the web that waits for nobody.
+    // Returns the listener that has the next connection. Without a web listener it does not wait.
     fn entrance<R: Wait>(&mut self, rt: &R) -> Option<Entrance> {
         let Some(web) = &self.web else {
             return Some(Entrance::Telnet);
@@ -97,7 +96,7 @@ impl Arrivals {
         Some(entrance)
     }
 
-    // Takes the next connection there.
+    // Accepts the next connection there.
     fn accept<R: Wait + Log>(&mut self, rt: &R, entrance: Entrance) -> Arrival {
         let accepted = match (&self.web, entrance) {
             (Some(web), Entrance::Web) => web.accept(),
@@ -122,7 +121,7 @@ impl Arrivals {
         }
     }
 
-    // Passes over a call that gave no connection: nobody came, or he gave up, or the system lacks what it takes.
+    // Skips a call without a connection: none came, it was aborted, or the system lacks resources.
     fn pass_over<R: Wait + Log>(&mut self, rt: &R, error: &Error) {
         let kind = error.kind();
         if matches!(

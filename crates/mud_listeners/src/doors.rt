@@ -1,45 +1,45 @@
-//! Where players come in.
+//! The listeners of a server.
 
 ghost use Rattle.std.specs.Prelude.{◌≡◌, IfSome, is_some};
 
 use std::net::TcpListener;
 
-/// Where players come in.
+/// The listeners of a server.
 #[derive(Drop)]
 pub struct Doors {
-    /// Who comes by Telnet.
+    /// The Telnet listener.
     pub telnet: TcpListener,
-    /// Who comes from a browser, if there is a door for that.
+    /// The web listener, if there is one.
     pub web: Option<WebDoor>,
 }
 
-/// A door on the web.
+/// A web listener and its page.
 #[derive(Drop)]
 pub struct WebDoor {
-    /// Where browsers come.
+    /// The listener for browsers.
     pub listener: TcpListener,
-    /// What is at the door.
+    /// The page and its origin.
     pub site: Site,
 }
 
-/// Where connections come.
+/// The listeners without the page.
 #[derive(Drop)]
 pub struct Listeners {
     pub telnet: TcpListener,
     pub web: Option<TcpListener>,
 }
 
-/// The page of a door on the web, and its origin.
+/// The page of a web listener, and its origin.
 #[derive(Drop)]
 pub struct Site {
-    /// The only origin whose pages may play (RFC 6454, section 6.2), as `http://localhost:8000`.
+    /// The only origin whose pages may play (RFC 6454, section 6.2), such as `http://localhost:8000`.
     pub origin: String,
-    /// What is answered to a browser that asks for the page: a head of HTTP/1.1, and the page.
+    /// The answer to a browser that asks for the page: a head of HTTP/1.1, and the page.
     pub page: &'static [u8],
 }
 
 impl Doors {
-    /// Where connections come, and what is at the door on the web.
+    /// Returns the listeners, and the page with its origin.
     pub fn into_parts(self) -> (Listeners, Option<Site>) {
         let Doors { telnet, web } = self;
         match web {
@@ -54,7 +54,7 @@ impl Doors {
         }
     }
 
-    /// The ports; none where a listener has no port, which is then no listener.
+    /// Returns the ports, or `None` if a listener has no port.
     pub fn ports(&self) -> Option<Ports>
         ensures { IfSome result (λ ports. is_some ports.web ≡ is_some self.now.web) }
     {
@@ -75,13 +75,13 @@ impl Doors {
 /// The ports of a server.
 #[derive(Clone, Copy)]
 pub struct Ports {
-    /// Where players come by Telnet.
+    /// The Telnet port.
     pub telnet: u16,
-    /// Where browsers come, if there is a door for that.
+    /// The web port, if there is one.
     pub web: Option<u16>,
 }
 
-// The port of a listener, if it has one.
+// Returns the port of a listener, if it has one.
 fn port_of(listener: &TcpListener) -> Option<u16> {
     match listener.local_addr() {
         Ok(address) => Some(address.port()),

@@ -1,10 +1,10 @@
-//! Where connections come in: the doors of a server, and the connections that its listeners accept.
+//! The listeners of a server, and the connections that they accept.
 //!
-//! [`Doors`] are the listeners by Telnet and on the web, with the page and the origin of the web. [`Arrivals`] accepts
-//! from both by turns.
+//! [`Doors`] are the Telnet and the web listener, with the page and its origin. [`Arrivals`] alternates between them
+//! when both have a connection.
 //!
-//! Threads: one thread owns the arrivals and their sockets. A call of `next` blocks for a tenth of a second at most,
-//! also after a fault of the system, so its caller can look for a stop between two calls. An accepted connection
+//! Threads: one thread owns the arrivals and their sockets. A call of `next` blocks for at most a tenth of a second,
+//! even after a fault of the system, so its caller can check the stop flag between two calls. An accepted connection
 //! belongs to the caller.
 #![tactic(auto)]
 

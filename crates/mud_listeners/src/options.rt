@@ -1,13 +1,13 @@
-//! What the system is told of the listeners.
+//! Options of the listeners.
 
 use libc::net::{SO_RCVTIMEO, SOL_SOCKET, setsockopt};
 use std::net::TcpListener;
 use std::os::fd::AsRawFd;
 
-/// How many milliseconds a listener is waited for before the server looks whether it is to end.
+/// The timeout of a listener's call in milliseconds. The server checks the stop flag between two calls.
 pub const ACCEPT_MILLISECONDS: u32 = 100;
 
-// The value of an option that is a time of less than a second: its seconds, and its microseconds.
+// Returns the value of an option that is a time below one second: its seconds and its microseconds.
 fn time(milliseconds: u32) -> [u8; 16] {
     let mut value = [0u8; 16];
     let microseconds = i64::from(milliseconds) * 1000;
@@ -15,7 +15,7 @@ fn time(milliseconds: u32) -> [u8; 16] {
     value
 }
 
-/// Has each `accept` of a listener wait a moment only; whether that could be set.
+/// Gives each `accept` of a listener a short timeout. Returns whether it could be set.
 pub fn bound_waits(listener: &TcpListener) -> bool {
     let fd = listener.as_raw_fd();
     let wait = time(ACCEPT_MILLISECONDS);

@@ -1,4 +1,4 @@
-//! Which of two listeners has a connection.
+//! Polls two listeners.
 
 ghost use Rattle.std.specs.Prelude.{◌≡◌};
 ghost use Rattle.mud_listeners.specs.inner.Turns.{turn_of};
@@ -10,7 +10,7 @@ use mud_socket::Entrance;
 use std::net::TcpListener;
 use std::os::fd::AsRawFd;
 
-/// Which of the two listeners has a connection, or a fault.
+/// The listeners that have a connection, or a fault.
 #[derive(Clone, Copy)]
 pub struct Readiness {
     pub telnet: bool,
@@ -18,7 +18,7 @@ pub struct Readiness {
 }
 
 impl Readiness {
-    /// Where a connection is to be taken, if there is one; of two on the web only if that is next.
+    /// Returns the listener to accept from, if one is ready. If both are, it is the one whose turn it is.
     pub fn turn(self, is_web_next: bool) -> Option<Entrance>
         ensures { result ≡ turn_of self.telnet self.web is_web_next }
     {
@@ -32,7 +32,7 @@ impl Readiness {
     }
 }
 
-// What is asked about a listener.
+// Returns the poll request for a listener.
 fn poll_of(listener: &TcpListener) -> pollfd {
     pollfd {
         fd: listener.as_raw_fd(),
@@ -41,7 +41,7 @@ fn poll_of(listener: &TcpListener) -> pollfd {
     }
 }
 
-/// Waits a moment until one of two listeners has a connection; nothing where that can't be found out.
+/// Waits a moment until one of two listeners has a connection. Returns `None` if polling fails.
 pub fn wait_for_either(telnet: &TcpListener, web: &TcpListener) -> Option<Readiness> {
     let mut both = [poll_of(telnet), poll_of(web)];
     if poll(&mut both, ACCEPT_MILLISECONDS as i32) < 0 {

@@ -1,4 +1,4 @@
--- The five parts of a node and of an edge, one after the other.
+-- The five parts of a node and of an edge, concatenated.
 use Rattle.std.proofs.Common.{◌≡◌, ℕ, List, ◌++◌, ◌∙◌, refl, ap, append_assoc, codes}
 use Rattle.std.specs.Fmt.{decimal}
 use Rattle.mud_world.specs.declared.record.Passage.{Passage}
@@ -6,7 +6,7 @@ use Rattle.mud_world.specs.declared.record.Record.{Record}
 use Rattle.mud_map.specs.Map.{Drawing, label_part, room_text, exit_text, lock_text, meeting_text, walk_text, ends_text}
 use Rattle.mud_map.specs.Map.{node_text, edge_text}
 
--- one part more
+-- one more part
 next : (old text part before after : List ℕ) → before ≡ old ++ text → after ≡ before ++ part
     → after ≡ old ++ (text ++ part)
 next old text part before after is more = more ∙ ap (λ v. v ++ part) is ∙ append_assoc old text part

@@ -1,4 +1,4 @@
--- An escaped text is read as it was meant.
+-- A reader of an escaped text gets the original text.
 use Rattle.std.proofs.Common.{◌≡◌, ℕ, false, List, [], ◌∷◌, ◌++◌, Some, refl, sym, ◌∙◌, ap, subst}
 use Rattle.std.specs.Prelude.{nat_eq, ◌||◌, codes, if◌then◌else◌}
 use Rattle.std.specs.Option.{option_and_then}
@@ -30,7 +30,7 @@ itself b no_feed no_quote no_slash =
     ∙ ap (λ t. if t || nat_eq b BACKSLASH then BACKSLASH ∷ b ∷ [] else b ∷ []) no_quote
     ∙ ap (λ t. if t then BACKSLASH ∷ b ∷ [] else b ∷ []) no_slash
 
--- what stands for a byte is never empty
+-- the escape of a byte is never empty
 some_byte : (b : ℕ) → (c : ℕ) × ((more : List ℕ) × (escaped_byte b ≡ c ∷ more))
 some_byte b =
     bool_cases (nat_eq b LF)
@@ -62,7 +62,7 @@ some_byte b =
       ),
     )))
 
--- an escaped text and what ends it is never empty
+-- an escaped text with the final quote is never empty
 first : (text rest : List ℕ) → (c : ℕ) × ((more : List ℕ) × (escape text ++ QUOTE ∷ rest ≡ c ∷ more))
 first [] rest = (QUOTE, (rest, refl))
 first (b ∷ text) rest =

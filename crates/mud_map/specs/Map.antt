@@ -15,12 +15,12 @@ use Rattle.mud_cert.specs.declared.cert.Conclusion.{Conclusion}
 use Rattle.mud_cert.specs.declared.cert.Conclusion.TheVariants.{Meet}
 use Rattle.mud_map.specs.Quotes.{in_quotes}
 
--- what is drawn into a map: what is claimed of some players, and the room where they meet, if there is one
+-- the parts drawn in a map: the claims about some players, and the meeting room, if there is one
 pub record Drawing : Type 0 where
   pub accounts : List Account
   pub meeting : Option ℕ
 
--- these are drawn in
+-- the drawing with these parts
 abbrev pub drawing : List Account → Option ℕ → Drawing
 drawing accounts meeting = record { accounts = accounts; meeting = meeting }
 
@@ -28,7 +28,7 @@ drawing accounts meeting = record { accounts = accounts; meeting = meeting }
 abbrev pub title_text : ℕ → Record → List ℕ
 title_text n r = get_or r.names 0 [] ++ codes " " ++ number_text n
 
--- what it costs a player to come to the room, in a line of its own, if this is the room's label
+-- the cost for a player to reach the room, on a line of its own, if this is the room's label
 abbrev pub cost_text : ℕ → ℕ → ℕ × Label → List ℕ
 cost_text room player e =
     if nat_eq e.0 room then codes "\n" ++ number_text player ++ codes ": " ++ decimal e.1.cost else []
@@ -37,28 +37,28 @@ cost_text room player e =
 abbrev pub label_text : ℕ → Account → List ℕ
 label_text room a = flat_map (cost_text room a.player) a.labels
 
--- what is read in room n
+-- the text inside room n
 abbrev pub room_text : List Account → ℕ → Record → List ℕ
 room_text accounts n r = title_text n r ++ flat_map (label_text n) accounts
 
--- what is read at exit n
+-- the text at exit n
 abbrev pub exit_text : ℕ → Record → Passage → List ℕ
 exit_text n r p = title_text n r ++ codes " (" ++ decimal p.cost ++ codes ")"
 
--- what is locked is dashed, and its key is a tooltip
+-- a locked object is dashed, and its key is a tooltip
 abbrev pub lock_text : Option (Tree ℕ) → List ℕ
 lock_text None = []
 lock_text (Some key) = codes " style=dashed tooltip=" ++ in_quotes (printed (by_text key))
 
--- the room of the meeting has a second line around it
+-- the meeting room has a second border
 abbrev pub meeting_text : Option ℕ → ℕ → List ℕ
 meeting_text meeting n = if is_number n meeting then codes " peripheries=2" else []
 
--- the exit is one of the account's walk
+-- the account's walk uses the exit
 abbrev pub walks : Account → ℕ → Bool
 walks a exit = option_map_or (list_any (nat_eq exit)) a.walk false
 
--- somebody's walk goes through the exit
+-- some account's walk uses the exit
 abbrev pub is_walked : List Account → ℕ → Bool
 is_walked accounts exit = list_any (λ a. walks a exit) accounts
 
@@ -66,7 +66,7 @@ is_walked accounts exit = list_any (λ a. walks a exit) accounts
 abbrev pub walk_text : List Account → ℕ → List ℕ
 walk_text accounts exit = if is_walked accounts exit then codes " color=red penwidth=2" else []
 
--- the label that is read as this text
+-- a label with this text
 abbrev pub label_part : List ℕ → List ℕ
 label_part text = codes " [label=" ++ in_quotes text
 
@@ -92,21 +92,21 @@ node_of d n r = if is_room_kind r.kind then node_text d n r else []
 abbrev pub edge_of : Drawing → ℕ → Record → List ℕ
 edge_of d n r = option_map_or (edge_text d n r) (kind_passage r.kind) []
 
--- the nodes and then the edges of all records, by rising number: one for each room and each exit, and no others
+-- the nodes and then the edges of all records, sorted by number: one for each room and each exit, and no others
 abbrev pub map_text : State → Drawing → List ℕ
 map_text w d =
     codes "digraph world {\nnode [shape=box];\n" ++ flat_map (λ e. node_of d e.0 e.1) w.objects
     ++ flat_map (λ e. edge_of d e.0 e.1) w.objects ++ codes "}\n"
 
--- where a certificate says that its party meets
+-- the meeting room of a certificate
 abbrev pub meeting_of : Conclusion → Option ℕ
 meeting_of (Meet (Some m)) = Some m.room
 meeting_of other = None
 
--- what a certificate draws
+-- the drawing of a certificate
 abbrev pub drawing_of : Certificate → Drawing
 drawing_of c = drawing c.members (meeting_of c.conclusion)
 
--- nothing is drawn in
+-- the empty drawing
 abbrev pub blank : Drawing
 blank = drawing [] None

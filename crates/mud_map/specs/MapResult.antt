@@ -1,4 +1,4 @@
--- The map of a world, and what of a certificate is drawn into it.
+-- The map of a world, and the parts of a certificate that are drawn in it.
 use Rattle.std.specs.Prelude.{◌≡◌, ℕ, ◌≤◌, ◌<◌, List, length, Option}
 use Rattle.mud_world.specs.History.{world_of}
 use Rattle.mud_chron.specs.Entry.{Entry}
@@ -15,7 +15,7 @@ use Rattle.mud_map.specs.Map.{map_text, drawing_of, blank}
 use Rattle.mud_map.specs.declared.mapping.NoMap.{NoMap}
 use Rattle.mud_map.specs.declared.mapping.NoMap.TheVariants.{History, Proof, Version}
 
--- the text is the map of the world of the entries that the bytes keep, all of which are legal
+-- the text is the map of the world of the entries in the bytes, all of which are legal
 pub record IsMap (kind : TextKind) (bytes text : List ℕ) (torn : Option ℕ) : Type 0 where
   pub entries : List Entry
   pub kept : KeepsEntries kind bytes entries torn
@@ -33,7 +33,7 @@ pub record IsMapWith (kind : TextKind) (bytes proof text : List ℕ) (torn : Opt
   pub reached : cert.version ≤ length entries
   pub text_is : text ≡ map_text (world_at entries cert.version) (drawing_of cert)
 
--- the certificate speaks of a version that the history, which has so many changes, does not reach
+-- the certificate is about a version beyond the number of changes in the history
 pub record IsBeyond (kind : TextKind) (bytes proof : List ℕ) (version changes : ℕ) : Type 0 where
   pub entries : List Entry
   pub torn : Option ℕ
@@ -44,7 +44,7 @@ pub record IsBeyond (kind : TextKind) (bytes proof : List ℕ) (version changes 
   pub changes_is : changes ≡ length entries
   pub beyond : changes < version
 
--- why there is no map
+-- the reason why there is no map
 abbrev pub HasNoMap : TextKind → List ℕ → List ℕ → NoMap → Type 0
 HasNoMap kind bytes proof (History fault) = KeepsNoWorld kind bytes fault
 HasNoMap kind bytes proof (Proof fault) = (n : ℕ) → fault ≡ BadLine n → IsBadLine (without_returns proof) n

@@ -1,6 +1,6 @@
-//! The bytes of an escape in a text in double quotes (docs/KEEPING.md, "Map").
+//! The bytes of an escape sequence in a double-quoted text (docs/KEEPING.md, "Map").
 
-/// The backslash. It stands before a quote and before another one, and with the small letter n for a line feed.
+/// The backslash. It escapes a quote and a backslash, and with a lower-case n it stands for a line feed.
 pub const BACKSLASH: u8 = 92;
-/// The small letter n: after a backslash it stands for a line feed.
+/// The lower-case n: after a backslash it stands for a line feed.
 pub const SMALL_N: u8 = 110;

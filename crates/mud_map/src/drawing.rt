@@ -1,4 +1,4 @@
-//! The text of a graph.
+//! Writes a graph as text.
 
 ghost use Rattle.std.specs.Prelude.{◌≡◌, ◌++◌, [], IfOk, OnOk};
 ghost use Rattle.std.specs.Fmt.{decimal};
@@ -38,7 +38,7 @@ fn push_number(out: &mut Vec<u8>, number: u32) -> Result<(), AllocError>
     push_decimal(out, number)
 }
 
-// The first name of an object, and its number.
+// Appends the first name of an object, and its number.
 fn push_title(out: &mut Vec<u8>, number: u32, kept: &Record) -> Result<(), AllocError>
     ensures { OnOk result (out.new.items ≡ out.old.items ++ title_text number kept.now) }
 {
@@ -47,7 +47,7 @@ fn push_title(out: &mut Vec<u8>, number: u32, kept: &Record) -> Result<(), Alloc
     push_number(out, number)
 }
 
-// What is locked is dashed, and shows its key.
+// Appends the style of a locked object: dashed, with its key as a tooltip.
 fn push_lock(alloc: Global, out: &mut Vec<u8>, key: &Option<Key>) -> Result<(), AllocError>
     ensures { OnOk result (out.new.items ≡ out.old.items ++ lock_text key.now) }
 {
@@ -59,7 +59,7 @@ fn push_lock(alloc: Global, out: &mut Vec<u8>, key: &Option<Key>) -> Result<(), 
     push_quoted(out, text.as_bytes())
 }
 
-// What it costs a player to come to the room, if this is the room's label.
+// Appends the cost for a player to reach the room, if this is the room's label.
 fn push_cost(
     out: &mut Vec<u8>,
     room: u32,
@@ -77,7 +77,7 @@ fn push_cost(
     push_decimal(out, entry.1.cost)
 }
 
-// The label of the room, if the member has one.
+// Appends the label of the room, if the member has one.
 fn push_label(out: &mut Vec<u8>, room: u32, member: &Member) -> Result<(), AllocError>
     ensures { OnOk result (out.new.items ≡ out.old.items ++ label_text room member.now) }
 {
@@ -89,7 +89,7 @@ fn push_label(out: &mut Vec<u8>, room: u32, member: &Member) -> Result<(), Alloc
     Ok(())
 }
 
-// The labels of the room.
+// Appends the labels of the room.
 fn push_labels(out: &mut Vec<u8>, room: u32, members: &[Member]) -> Result<(), AllocError>
     ensures { OnOk result (out.new.items ≡ out.old.items ++ flat_map (label_text room) members.now) }
 {
@@ -99,7 +99,7 @@ fn push_labels(out: &mut Vec<u8>, room: u32, members: &[Member]) -> Result<(), A
     Ok(())
 }
 
-// What is drawn into a map.
+// The parts of a certificate that are drawn in a map.
 #[derive(Drop)]
 struct Drawn<'a> {
     members: &'a [Member],
@@ -114,7 +114,7 @@ impl<'a> Model for Drawn<'a> {
     ghost view = { λ m. drawing m.members.now m.meeting };
 }
 
-// What is read in a room.
+// Returns the text inside a room.
 fn room_label(
     alloc: Global,
     members: &[Member],
@@ -129,7 +129,7 @@ fn room_label(
     Ok(label)
 }
 
-// What is read at an exit.
+// Returns the text at an exit.
 fn exit_label(
     alloc: Global,
     number: u32,
@@ -146,7 +146,7 @@ fn exit_label(
     Ok(label)
 }
 
-// A second line around the room of the meeting.
+// Appends a second border for the meeting room.
 fn push_meeting(out: &mut Vec<u8>, meeting: Option<u32>, number: u32) -> Result<(), AllocError>
     ensures { OnOk result (out.new.items ≡ out.old.items ++ meeting_text meeting number) }
 {
@@ -162,7 +162,7 @@ fn push_meeting(out: &mut Vec<u8>, meeting: Option<u32>, number: u32) -> Result<
     }
 }
 
-// The label that is read as this text.
+// Appends a label with this text.
 fn push_label_part(out: &mut Vec<u8>, label: &[u8]) -> Result<(), AllocError>
     ensures { OnOk result (out.new.items ≡ out.old.items ++ label_part label.now) }
 {
@@ -188,7 +188,7 @@ fn push_node(
     push(out, "];\n")
 }
 
-// Whether the walk of the member goes through the exit.
+// Returns whether the member's walk uses the exit.
 fn walks(member: &Member, exit: u32) -> bool
     ensures { result ≡ walks member.now exit }
 {
@@ -198,7 +198,7 @@ fn walks(member: &Member, exit: u32) -> bool
     }
 }
 
-// Whether somebody's walk goes through the exit.
+// Returns whether some member's walk uses the exit.
 fn is_walked(members: &[Member], exit: u32) -> bool
     ensures { result ≡ is_walked members.now exit }
 {
@@ -210,7 +210,7 @@ fn is_walked(members: &[Member], exit: u32) -> bool
     false
 }
 
-// An exit of a walk is red.
+// Appends the style of an exit of a walk: red.
 fn push_walk(out: &mut Vec<u8>, members: &[Member], exit: u32) -> Result<(), AllocError>
     ensures { OnOk result (out.new.items ≡ out.old.items ++ walk_text members.now exit) }
 {
@@ -221,7 +221,7 @@ fn push_walk(out: &mut Vec<u8>, members: &[Member], exit: u32) -> Result<(), All
     }
 }
 
-// The two ends of an exit.
+// Appends the two ends of an exit.
 fn push_ends(out: &mut Vec<u8>, passage: Passage) -> Result<(), AllocError>
     ensures { OnOk result (out.new.items ≡ out.old.items ++ ends_text passage) }
 {
@@ -250,7 +250,7 @@ fn push_edge(
     push(out, "];\n")
 }
 
-// A room is a node.
+// Appends a room as a node.
 fn push_room(
     alloc: Global,
     out: &mut Vec<u8>,
@@ -267,7 +267,7 @@ fn push_room(
     }
 }
 
-// An exit is an edge.
+// Appends an exit as an edge.
 fn push_exit(
     alloc: Global,
     out: &mut Vec<u8>,
@@ -284,7 +284,7 @@ fn push_exit(
     }
 }
 
-// The node of the number, if it is a room's.
+// Appends the node of the number, if it is a room's.
 fn push_room_at(
     alloc: Global,
     out: &mut Vec<u8>,
@@ -303,7 +303,7 @@ fn push_room_at(
     }
 }
 
-// The edge of the number, if it is an exit's.
+// Appends the edge of the number, if it is an exit's.
 fn push_exit_at(
     alloc: Global,
     out: &mut Vec<u8>,
@@ -322,7 +322,7 @@ fn push_exit_at(
     }
 }
 
-// The nodes of the rooms.
+// Appends the nodes of the rooms.
 fn push_rooms(
     alloc: Global,
     out: &mut Vec<u8>,
@@ -339,7 +339,7 @@ fn push_rooms(
     Ok(())
 }
 
-// The edges of the exits.
+// Appends the edges of the exits.
 fn push_exits(
     alloc: Global,
     out: &mut Vec<u8>,
@@ -356,7 +356,7 @@ fn push_exits(
     Ok(())
 }
 
-// The graph of the world.
+// Returns the graph of the world.
 fn drawn_map(alloc: Global, world: &World, drawn: &Drawn<'_>) -> Result<Vec<u8>, AllocError>
     ensures { IfOk result (λ out. out.items
         ≡ map_text world.now drawn.now) }
@@ -369,7 +369,7 @@ fn drawn_map(alloc: Global, world: &World, drawn: &Drawn<'_>) -> Result<Vec<u8>,
     Ok(out)
 }
 
-// Where a certificate says that its party meets.
+// Returns the meeting room of a certificate.
 fn meeting_of(conclusion: Conclusion) -> Option<u32>
     ensures { result ≡ meeting_of conclusion }
 {
@@ -379,7 +379,8 @@ fn meeting_of(conclusion: Conclusion) -> Option<u32>
     }
 }
 
-/// The rooms and exits of the world as a graph in DOT (docs/KEEPING.md, "Map"). The only error is out of memory.
+/// Returns the rooms and exits of the world as a graph in DOT (docs/KEEPING.md, "Map"). The only error is out of
+/// memory.
 pub fn map(alloc: Global, world: &World) -> Result<Vec<u8>, AllocError>
     ensures { IfOk result (λ out. out.items ≡ map_text world.now blank) }
 {
@@ -390,9 +391,9 @@ pub fn map(alloc: Global, world: &World) -> Result<Vec<u8>, AllocError>
     drawn_map(alloc, world, &drawn)
 }
 
-/// The map of a world with the claims of a certificate drawn in: the costs of its labels in the rooms, the exits of its
-/// walks in red, and the room of its meeting with a second line around it. Nothing here says that the certificate is
-/// valid. The only error is out of memory.
+/// Returns the map of a world with the claims of a certificate drawn in. The rooms have the costs of its labels, the
+/// exits of its walks are red, and its meeting room has a second border. It does not check the certificate. The only
+/// error is out of memory.
 pub fn map_with(alloc: Global, world: &World, cert: &Cert) -> Result<Vec<u8>, AllocError>
     ensures { IfOk result (λ out. out.items ≡ map_text world.now (drawing_of cert.now)) }
 {

@@ -1,4 +1,4 @@
-//! The map of a world.
+//! Reads a history and draws its map.
 
 ghost use Rattle.std.specs.Prelude.{◌≡◌, ℕ, IfOk, IfErr};
 ghost use Rattle.mud_chron.specs.Replay.{changes_of, AreLegal};
@@ -17,14 +17,14 @@ use mud_chron::{ChronFault, replay};
 use mud_compact::{Kept, KeptFault, TextKind, read_kept};
 use std::alloc::{AllocError, Global};
 
-/// Why there is no map.
+/// The reason why there is no map.
 #[derive(Debug, Drop)]
 pub enum NoMap {
-    /// The history's text has this fault, or memory ran out.
+    /// The history's text has this fault, or an allocation failed.
     History(KeptFault),
-    /// The certificate's text has this fault, or memory ran out.
+    /// The certificate's text has this fault, or an allocation failed.
     Proof(CertFault),
-    /// The certificate speaks of the first version, and the history has the second number of changes, which is less.
+    /// The certificate is about the first version. The history has fewer changes: the second number.
     Version(u32, usize),
 }
 
@@ -46,11 +46,11 @@ impl From<AllocError> for NoMap {
 pub struct MapText {
     /// The text of the graph, in DOT.
     pub text: Vec<u8>,
-    /// How many bytes at the end of a journal were torn off; none of a history.
+    /// The number of torn bytes at the end of a journal; `None` for a history.
     pub torn: Option<usize>,
 }
 
-// What the bytes keep, all of whose changes are legal.
+// Returns the contents of the bytes, if all of their changes are legal.
 fn legal_entries(alloc: Global, kind: TextKind, bytes: &[u8]) -> Result<Kept, KeptFault>
     ensures kept { IfOk result (λ kept. KeepsEntries kind bytes.now kept.entries.items kept.torn) }
     ensures legal { IfOk result (λ kept. AreLegal (changes_of kept.entries.items)) }
@@ -63,7 +63,7 @@ fn legal_entries(alloc: Global, kind: TextKind, bytes: &[u8]) -> Result<Kept, Ke
     }
 }
 
-// The certificate of a text, CRs at the ends of its lines aside.
+// Returns the certificate of a text, ignoring CRs at line ends.
 fn certificate(alloc: Global, proof: &[u8]) -> Result<Cert, CertFault>
     ensures ok { IfOk result (λ c. IsCertificate c × (without_returns proof.now ≡ cert_text c)) }
     ensures err { IfErr result (λ fault. (n : ℕ) → fault ≡ CertFault.BadLine n
@@ -73,7 +73,7 @@ fn certificate(alloc: Global, proof: &[u8]) -> Result<Cert, CertFault>
     read(alloc, &proof)
 }
 
-/// The map of the world of a history or a journal, whichever is said (docs/KEEPING.md, "Map").
+/// Returns the map of the world of a history or a journal, as `kind` says (docs/KEEPING.md, "Map").
 pub fn map_of(alloc: Global, kind: TextKind, bytes: &[u8]) -> Result<MapText, KeptFault>
     ensures ok { IfOk result (λ m. IsMap kind bytes.now m.text.items m.torn) }
     ensures err { IfErr result (KeepsNoWorld kind bytes.now) }
@@ -87,7 +87,7 @@ pub fn map_of(alloc: Global, kind: TextKind, bytes: &[u8]) -> Result<MapText, Ke
     })
 }
 
-/// The map of the world of a certificate's version, with the certificate drawn in.
+/// Returns the map of the world of a certificate's version, with the certificate drawn in.
 pub fn mapped_with(
     alloc: Global,
     kind: TextKind,

@@ -1,4 +1,4 @@
-//! Texts in double quotes.
+//! Writes double-quoted texts.
 
 ghost use Rattle.std.specs.Prelude.{◌≡◌, ◌++◌, OnOk};
 ghost use Rattle.mud_map.specs.Quotes.{escaped_byte, escape, in_quotes};
@@ -8,7 +8,7 @@ use mud_chron::codes::QUOTE;
 use mud_key::codes::LF;
 use std::alloc::AllocError;
 
-// Appends a byte as it is written between quotes.
+// Appends a byte with its escape.
 fn push_byte(out: &mut Vec<u8>, byte: u8) -> Result<(), AllocError>
     ensures { OnOk result (out.new.items ≡ out.old.items ++ escaped_byte byte) }
 {
@@ -22,7 +22,7 @@ fn push_byte(out: &mut Vec<u8>, byte: u8) -> Result<(), AllocError>
     Ok(())
 }
 
-// Appends a text as it is written between quotes.
+// Appends a text with its escapes.
 fn push_escaped(out: &mut Vec<u8>, text: &[u8]) -> Result<(), AllocError>
     ensures { OnOk result (out.new.items ≡ out.old.items ++ escape text.now) }
 {
@@ -32,7 +32,7 @@ fn push_escaped(out: &mut Vec<u8>, text: &[u8]) -> Result<(), AllocError>
     Ok(())
 }
 
-/// Appends a text with its quotes. The only error is out of memory.
+/// Appends a text in quotes. The only error is out of memory.
 pub(crate) fn push_quoted(out: &mut Vec<u8>, text: &[u8]) -> Result<(), AllocError>
     ensures { OnOk result (out.new.items ≡ out.old.items ++ in_quotes text.now) }
 {

@@ -9,7 +9,7 @@ use Rattle.mud_meter.specs.Bucket.{Bucket, full, cost, refilled, wait_for, witho
 use Rattle.mud_meter.specs.Calls.{Call, Take, Spend, time_of, tokens_of, after_call, let_through, all_through, asked}
 use Rattle.mud_meter.specs.Calls.{during, AreInOrder}
 
--- a call for which there is enough goes through, and its cost is gone
+-- a call that finds enough is let through, and its cost is subtracted
 enough_goes : (r : Bucket) (tokens : ℕ) → cost r tokens ≤ r.level
     → ((if is_none (wait_for r tokens) then cost r tokens else 0) ≡ cost r tokens)
     × (after_take r tokens ≡ without r tokens)
@@ -28,7 +28,7 @@ goes : (b : Bucket) (c : Call) → cost b (tokens_of c) ≤ (refilled b (time_of
 goes b (Take now tokens) fits = enough_goes (refilled b now) tokens fits
 goes b (Spend now tokens) fits = (omega arith, refl)
 
--- what is asked for in a time, by a first call and by those after it
+-- the demand of a period is that of the first call and that of the later calls
 when_during : (t : Bool) (b : Bucket) (c : Call) (cs : List Call)
     → asked b (cond t (c ∷ cs) cs) ≡ cond t (cost b (tokens_of c)) 0 + asked b cs
 when_during true b c cs = sum_by-cons (λ (d : Call). cost b (tokens_of d)) c cs
@@ -49,7 +49,7 @@ rest_asked b from to c cs =
     let is = when_during (nat_le from (time_of c) && nat_le (time_of c) to) b c (during from to cs) in
     omega (arith, is)
 
--- where no call comes before a time, those that come after it are all
+-- if no call comes before a time, the calls from that time on are all calls
 all_during : (cs : List Call) (since from to : ℕ) → from ≤ since → AreInOrder since cs
     → during from to cs ≡ during 0 to cs
 all_during [] since from to begun order = refl
@@ -59,7 +59,7 @@ all_during (c ∷ cs) since from to begun order =
     let same : nat_le from (time_of c) ≡ nat_le 0 (time_of c) = grind (arith, nat_tests) in
     rw (rest, same) refl
 
--- what is gained in a time is at most what is gained in its parts
+-- the gain of a period is at most the sum of the gains of its parts
 whole_le : (x y z r : ℕ) → z ≤ x + y → z * r ≤ x * r + y * r
 whole_le x y z r h = let less : z * r ≤ (x + y) * r = mul-le-mul_right r h in omega arith
 
@@ -67,13 +67,13 @@ whole_le x y z r h = let less : z * r ≤ (x + y) * r = mul-le-mul_right r h in 
 first_fits : (k rest old gain most : ℕ) → k + rest ≤ old + gain → k ≤ most → k ≤ min (old + gain) most
 first_fits k rest old gain most h fits = omega arith
 
--- what is left after it is enough for the rest
+-- the rest is enough for the later calls
 rest_fits : (k rest old before after all most : ℕ) → k + rest ≤ old + all → all ≤ before + after
     → k + rest ≤ most + after → rest ≤ (min (old + before) most - k) + after
 rest_fits k rest old before after all most h parts f = omega arith
 
--- All that is asked for goes through, where up to no time more is asked for than is there or gained until then, and in
--- no time more than the burst and what is gained in it.
+-- A bucket lets all calls through under two conditions. Up to any time, the demand is at most the level and the gain
+-- until then. In any period, it is at most the burst and the gain of the period.
 all_goes : (cs : List Call) (b : Bucket) (since : ℕ) → b.last ≤ since → AreInOrder since cs
     → ((to : ℕ) → since ≤ to → asked b (during 0 to cs) ≤ b.level + (to - b.last) * b.rate)
     → ((from to : ℕ) → asked b (during from to cs) ≤ full b + (to - from) * b.rate)

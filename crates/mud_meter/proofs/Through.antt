@@ -1,4 +1,4 @@
--- What calls let through.
+-- Bounds on the amount that calls let through.
 use Rattle.std.proofs.Common.{◌≡◌, refl, ap, subst₂, ℕ, ◌+◌, ◌-◌, ◌*◌, ◌≤◌, min, max, Bool, true, false, Some, None}
 use Rattle.std.proofs.Common.{is_none, if◌then◌else◌, nat_le, List, [], ◌∷◌, arith}
 use Rattle.std.proofs.Math.Nat.{mul-le-mul_right}
@@ -8,7 +8,7 @@ use Rattle.std.specs.List.{AllByRecursion}
 use Rattle.mud_meter.specs.Bucket.{Bucket, full, cost, refilled, wait_for, without}
 use Rattle.mud_meter.specs.Calls.{Call, Take, Spend, time_of, after_call, let_through, all_through}
 
--- a call changes the level alone, once the bucket is refilled
+-- a call on a refilled bucket changes only its level
 level_alone : (t : Bool) (b : Bucket) (tokens : ℕ)
     → (if t then without b tokens else b) ≡ record b { level = (if t then without b tokens else b).level }
 level_alone true b tokens = refl
@@ -20,7 +20,7 @@ after_is b (Take now tokens) =
     level_alone (is_none (wait_for (refilled b now) tokens)) (refilled b now) tokens
 after_is b (Spend now tokens) = refl
 
--- what it lets through was there
+-- a call lets through no more than the level
 was_there : (b : Bucket) (c : Call) → let_through b c + (after_call b c).level ≤ (refilled b (time_of c)).level
 was_there b (Take now tokens) =
     let r : Bucket = refilled b now in
@@ -34,11 +34,11 @@ was_there b (Take now tokens) =
     ] refl
 was_there b (Spend now tokens) = omega arith
 
--- what is gained in parts of a time is at most what is gained in all of it
+-- the gains of the parts of a period sum up to at most the gain of the period
 parts_le : (x y z r : ℕ) → x + y ≤ z → x * r + y * r ≤ z * r
 parts_le x y z r h = let more : (x + y) * r ≤ z * r = mul-le-mul_right r h in omega arith
 
--- the level after the first call, and what is let through later
+-- the level after the first call, and the amount that later calls let through
 first_and_rest : (first rest old new before after all most : ℕ) → first + new ≤ min (old + before) most
     → rest ≤ new + after → before + after ≤ all → first + rest ≤ old + all
 first_and_rest first rest old new before after all most f r g = omega arith
@@ -47,7 +47,7 @@ rest_from_full : (first rest old new before after all most : ℕ) → first + ne
     → rest ≤ new + after → after ≤ all → first + rest ≤ most + all
 rest_from_full first rest old new before after all most f r g = omega arith
 
--- a bound by what it is after a call is one by what it was before
+-- a bound on the state after a call gives a bound on the state before it
 after_rate : (b : Bucket) (c : Call) (rest to : ℕ)
     → rest ≤ (after_call b c).level + (to - (after_call b c).last) * (after_call b c).rate
     → rest ≤ (after_call b c).level + (to - max b.last (time_of c)) * b.rate
@@ -56,7 +56,7 @@ after_rate b c rest to h =
     let rate : (after_call b c).rate ≡ b.rate = ap (λ (a : Bucket). a.rate) (after_is b c) in
     subst₂ (λ (l r : ℕ). rest ≤ (after_call b c).level + (to - l) * r) last rate h
 
--- what is let through up to a time was there, or is gained until then
+-- the amount let through up to a time is at most the level and the gain until then
 through_le : (cs : List Call) (b : Bucket) (from to : ℕ)
     → AllByRecursion (λ c. (from ≤ time_of c) × (time_of c ≤ to)) cs
     → all_through b cs ≤ b.level + (to - b.last) * b.rate

@@ -1,4 +1,4 @@
--- How long it takes until there are enough tokens.
+-- The waiting time until there are enough tokens.
 use Rattle.std.proofs.Common.{◌≡◌, ◌↔◌, refl, subst, ℕ, ◌+◌, ◌-◌, ◌*◌, ◌≤◌, ◌<◌, min, Bool, true, false, Some, None}
 use Rattle.std.proofs.Common.{is_none, if◌then◌else◌, nat_le, ◌==◌, arith}
 use Rattle.std.proofs.Math.Nat.{mul-le-mul_right, lt_of_mul-lt-mul_right}
@@ -8,7 +8,7 @@ use Rattle.std.specs.Int.{div_ceil}
 use Rattle.mud_meter.specs.declared.meter.TheConstants.{TOKEN}
 use Rattle.mud_meter.specs.Bucket.{Bucket, full, cost, refilled, wait_for, without, after_take}
 
--- a quotient that is rounded up is the least number of times
+-- a quotient that is rounded up is the least number of periods
 up_to : (a b d : ℕ) → 0 < b → a ≤ d * b → div_ceil a b ≤ d
 up_to a b d pos h =
     let t = div_ceil_times a b pos in
@@ -28,7 +28,7 @@ not_zero a b pos some =
     let more : 0 * b < div_ceil a b * b = omega (arith, t.0) in
     lt_of_mul-lt-mul_right b more
 
--- nothing costs more than all that a bucket can have, and nothing at all where there is no limit
+-- a cost is at most the burst, and it is 0 if there is no limit
 pub cost_le : (b : Bucket) (tokens : ℕ) → cost b tokens ≤ full b
 cost_le b tokens =
     elim (b.rate == 0) as (λ v. (if v then 0 else min tokens b.burst * TOKEN) ≤ full b) [
@@ -43,7 +43,7 @@ is_limited b tokens =
       | false ↦ λ e h. grind (arith, nat_tests)
     ] refl
 
--- there is nothing to wait for exactly where there are enough
+-- there is no wait exactly if there are enough tokens
 none_if : (t : Bool) (n : ℕ) → t ≡ true → (if t then None else Some n) ≡ None
 none_if t n e = rw e refl
 
@@ -51,14 +51,14 @@ if_none : (t : Bool) (n : ℕ) → (if t then None else Some n) ≡ None → t �
 if_none true n e = refl
 if_none false n e = absurd (cc)
 
--- so much is missing of k, where d times r is gained
+-- a lower bound on the gain that k still needs
 missing : (k l d r most : ℕ) → k ≤ min (l + d * r) most → k - l ≤ d * r
 missing k l d r most h = omega arith
 
 gained : (k l d r most : ℕ) → k ≤ most → k - l ≤ d * r → k ≤ min (l + d * r) most
 gained k l d r most fits h = omega arith
 
--- when a bucket with too few tokens has enough
+-- the time at which a bucket with too few tokens has enough
 has_enough : (b : Bucket) (tokens later : ℕ) → b.level < cost b tokens
     → (wait_for (refilled b later) tokens ≡ None)
     ↔ (b.last + div_ceil (cost b tokens - b.level) b.rate ≤ later)

@@ -1,7 +1,7 @@
-//! How often something may be done: a token bucket.
+//! A token bucket: it limits how often something may be done.
 //!
-//! A [`Meter`] begins with as many tokens as its burst, and gains so many a minute, up to the burst. Whoever does
-//! something takes tokens first, and waits where there are too few. Below, `now` asks a clock, and `rest` sleeps:
+//! A [`Meter`] begins with `burst` tokens, gains `rate` tokens a minute, and never holds more than `burst`. A caller
+//! takes tokens before it acts, and waits if there are too few. Below, `now` asks a clock, and `rest` sleeps:
 //!
 //! ```rust
 //! let mut lines = Meter::new(1200, 200, now(clock));
@@ -10,7 +10,7 @@
 //! }
 //! ```
 //!
-//! Whoever learns only afterwards how many tokens something costs waits for one token first, and spends them then:
+//! A caller that learns the cost only afterwards waits for one token first, and spends the cost then:
 //!
 //! ```rust
 //! while let Some(wait) = changes.wait(now(clock)) {
@@ -21,12 +21,12 @@
 //! ```
 //!
 //! A meter counts in whole numbers. A token has 60,000,000 units, so a rate of N tokens a minute is N units a
-//! microsecond, and nothing is lost by rounding. All times are those of one clock, in whole microseconds. A time
-//! before the latest one changes nothing.
+//! microsecond, and no rounding occurs. All times come from one clock, in whole microseconds. A time before the latest
+//! one changes nothing.
 //!
-//! **What is proved.** Each call does exactly what `specs/Bucket` says. [`laws`] has what is proved of that. In any
-//! time a meter lets through at most its burst and what its rate gives in that time. What is asked for within that
-//! bound is let through, and so is whoever waits as long as it was told.
+//! **What is proved.** Each call does exactly what `specs/Bucket` says, and [`laws`] states what follows. In any period
+//! a meter lets through at most its burst and the gain of the period. Calls that stay within that bound are let
+//! through, and so is a caller that waits as long as the meter said.
 #![tactic(auto)]
 
 pub mod laws;

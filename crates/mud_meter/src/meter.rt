@@ -7,10 +7,10 @@ ghost use Rattle.mud_meter.specs.Bucket.{micros, in_nanos, cost, refilled, wait_
 use std::marker::Model;
 use std::time::Duration;
 
-/// How many units a token has.
+/// The number of units in a token.
 pub const TOKEN: u64 = 60_000_000;
 
-/// A token bucket: it gains tokens by its rate, up to its burst.
+/// A token bucket. It gains tokens at its rate, up to its burst.
 #[derive(Debug, Drop)]
 pub struct Meter {
     rate: u32,
@@ -37,8 +37,8 @@ impl Model for Meter {
 }
 
 impl Meter {
-    /// A meter that is full. It gains so many tokens a minute, where 0 is no limit, and has at most a burst of them; a
-    /// burst of 0 counts as 1.
+    /// Returns a full meter. It gains `rate_per_minute` tokens a minute, where 0 means no limit, and holds at most
+    /// `burst` tokens. A burst of 0 counts as 1.
     pub fn new(rate_per_minute: u32, burst: u32, now: Duration) -> Meter
         ensures { result ≡ record {
           rate = rate_per_minute;
@@ -56,7 +56,7 @@ impl Meter {
         }
     }
 
-    /// Takes so many tokens. If there are too few it takes none, and answers after which time there will be enough.
+    /// Takes `tokens` tokens. If there are too few, takes none and returns the time after which there will be enough.
     /// More tokens than the burst count as the burst. A time before the last one counts as the last one.
     pub fn take(&mut self, now: Duration, tokens: u32) -> Option<Duration>
         ensures wait { let asked = refilled self.old (micros now) in
@@ -71,7 +71,7 @@ impl Meter {
         wait
     }
 
-    /// Takes so many tokens after the fact, or all that there are, if they are fewer.
+    /// Takes `tokens` tokens after the fact, or all tokens if there are fewer.
     pub fn spend(&mut self, now: Duration, tokens: u32)
         ensures { self.new ≡ without (refilled self.old (micros now)) tokens }
     {
@@ -79,7 +79,7 @@ impl Meter {
         self.remove(tokens);
     }
 
-    /// After which time there will be a token, if there is none now.
+    /// Returns the time until there is a token, if there is none now.
     pub fn wait(&self, now: Duration) -> Option<Duration>
         ensures { let asked = refilled self.now (micros now) in
             option_map as_nanos result ≡ option_map in_nanos (wait_for asked 1) }
@@ -87,7 +87,7 @@ impl Meter {
         self.refilled(now).wait_for(1)
     }
 
-    // The meter with what the rate gave since the last time.
+    // Returns the meter with its gain since the last time.
     fn refilled(&self, now: Duration) -> Meter
         ensures { result ≡ refilled self.now (micros now) }
     {
@@ -101,7 +101,7 @@ impl Meter {
         }
     }
 
-    // How long it takes until there are so many tokens, if there are too few.
+    // Returns the time until there are `tokens` tokens, if there are too few now.
     fn wait_for(&self, tokens: u32) -> Option<Duration>
         ensures { option_map as_nanos result ≡ option_map in_nanos (wait_for self.now tokens) }
     {
@@ -113,14 +113,14 @@ impl Meter {
         Some(Duration::from_micros(micros))
     }
 
-    // Takes so many tokens, as far as they are there.
+    // Takes `tokens` tokens, or all if there are fewer.
     fn remove(&mut self, tokens: u32)
         ensures { self.new ≡ without self.old tokens }
     {
         self.level = self.level.saturating_sub(self.cost(tokens));
     }
 
-    // What so many tokens cost, in units.
+    // Returns the cost of `tokens` tokens, in units.
     fn cost(&self, tokens: u32) -> u64
         ensures { result ≡ cost self.now tokens }
     {

@@ -51,7 +51,7 @@ unfinished_is rest (a_verb verb e) = rw (verb_is_no_iac verb e, verb_is_no_sb ve
 unfinished_is rest (an_open_subnegotiation inside i) = rw (sym (append-nil inside)) (inside_is inside i [])
 unfinished_is rest (an_iac_inside inside i) = inside_is inside i (IAC ∷ [])
 
--- in front of less than a piece stands no piece
+-- no prefix of less than a whole piece is a piece
 no_piece : (rest : List ℕ) → IsUnfinished rest → (p : Piece) (front back : List ℕ) → Spells p front
     → rest ≢ front ++ back
 no_piece rest u p front back k e =
@@ -59,7 +59,7 @@ no_piece rest u p front back k e =
     sym (unfinished_is rest u) ∙ (ap (scan Between) e ∙ spelled_is p front k back) in
     absurd (cc)
 
--- what behind_end answers, by the grammar
+-- the result of behind_end, by the grammar
 abbrev Closes : List ℕ → Option (List ℕ) → Type 0
 Closes bytes None = IsInside bytes ⊎ ((inside : List ℕ) × IsInside inside × (bytes ≡ inside ++ IAC ∷ []))
 Closes bytes (Some rest) = (inside : List ℕ) × IsInside inside × (bytes ≡ (inside ++ IAC ∷ SE ∷ []) ++ rest)
@@ -99,7 +99,7 @@ closes (a ∷ b ∷ bytes) =
       | false ↦ λ e. byte_closes a (b ∷ bytes) (behind_end (b ∷ bytes)) e (closes (b ∷ bytes))
     ] refl
 
--- what first_piece answers, by the grammar
+-- the result of first_piece, by the grammar
 abbrev Starts : List ℕ → Option (Piece × List ℕ) → Type 0
 Starts bytes None = IsUnfinished bytes
 Starts bytes (Some p) = (front : List ℕ) × Spells p.0 front × (bytes ≡ front ++ p.1)
@@ -153,7 +153,7 @@ starts (b ∷ bytes) =
       | false ↦ λ e. (b ∷ [], a_plain_byte b e, refl)
     ] refl
 
--- where no piece stands in front, there is less than a piece
+-- bytes that do not begin with a piece are less than a whole piece
 unfinished : (rest : List ℕ) → ((p : Piece) (front back : List ℕ) → Spells p front → rest ≢ front ++ back)
     → IsUnfinished rest
 unfinished rest u =
@@ -162,7 +162,7 @@ unfinished rest u =
       | Some p ↦ λ s. absurd (u p.0 s.0 p.1 s.1 s.2)
     ] (starts rest)
 
--- no other pieces are cut from these bytes
+-- these bytes have no other cutting
 pub cuts_only : (bytes : List ℕ) (ps : List Piece) → Cuts bytes ps → scan Between bytes ≡ ps
 cuts_only bytes ps (to_rest rest u) = unfinished_is rest (unfinished rest u)
 cuts_only bytes ps (to_piece p front back others s c) =
@@ -184,7 +184,7 @@ pieces_up_to_cut (suc n) bytes h =
           (to_piece p.0 s.0 p.1 (pieces_up_to n p.1) s.1 (pieces_up_to_cut n p.1 (omega arith)))
     ] (starts bytes) (first_piece_begins bytes)
 
--- the bytes are cut into the pieces of the definition
+-- the pieces of the definition are a cutting of the bytes
 pub pieces_cut : (bytes : List ℕ) → Cuts bytes (pieces bytes)
 pieces_cut bytes = pieces_up_to_cut (length bytes) bytes (omega arith)
 

@@ -1,4 +1,4 @@
--- The pieces of all bytes, found a byte at a time.
+-- The pieces of all bytes, found byte by byte.
 use Rattle.std.proofs.Common.{ℕ, zero, suc, ◌≡◌, refl, ap, sym, ◌≤◌, ◌<◌, arith, true, false, List, [], ◌∷◌, length}
 use Rattle.std.proofs.Common.{Option, Some, None, ◌==◌, if◌then◌else◌, ◌∙◌}
 use Rattle.mud_nvt.specs.declared.codes.TheConstants.{IAC, SE, SB}
@@ -16,12 +16,12 @@ abbrev pub put : Option Piece → List Piece → List Piece
 put None ps = ps
 put (Some p) ps = p ∷ ps
 
--- the pieces that these bytes finish, from this place on
+-- the pieces that these bytes complete, from this position
 abbrev pub scan : Position → List ℕ → List Piece
 scan place [] = []
 scan place (b ∷ bytes) = put (finished_piece place b) (scan (next_place place b) bytes)
 
--- what is scanned is this first piece, and what follows it, which is shorter than n
+-- scanning gives this first piece and then the pieces of the remaining bytes, which are fewer than n
 abbrev pub Begins : ℕ → Option (Piece × List ℕ) → List Piece → Type 0
 Begins n None ps = ps ≡ []
 Begins n (Some p) ps = (ps ≡ p.0 ∷ scan Between p.1) × (length p.1 < n)

@@ -1,4 +1,4 @@
--- Characters that are typed one after the other are the machine's steps, a byte at a time.
+-- Consuming a run of printable characters equals consuming them byte by byte.
 use Rattle.std.proofs.Common.{ℕ, ◌≡◌, refl, ap, sym, ◌∙◌, ◌+◌, ◌<◌, ◌≤◌, arith, Bool, true, false, List, [], ◌∷◌}
 use Rattle.std.proofs.Common.{◌++◌, length, All}
 use Rattle.std.proofs.Common.{◌==◌, nat_le, nat_lt, append_assoc, append-nil}
@@ -17,7 +17,7 @@ use Rattle.mud_nvt.specs.Held.{Held}
 use Rattle.mud_nvt.specs.inner.Machine.{next, byte_units, run, run_units}
 use Rattle.mud_nvt.specs.inner.Lines.{IsTyped, with_text}
 
--- a terminal that is between two pieces, with a line that isn't too long
+-- a terminal between two pieces, whose line is not too long
 abbrev pub typing : Bool → List ℕ → Held
 typing after_cr text = record { place = Between; after_cr = after_cr; text = text; too_long = false }
 
@@ -82,7 +82,7 @@ held_is h p t =
     ap (λ q. record { place = q; after_cr = h.after_cr; text = h.text; too_long = h.too_long }) p
     ∙ ap (λ v. record { place = Between; after_cr = h.after_cr; text = h.text; too_long = v }) t
 
--- what is held after a text that is typed
+-- the state after a run of printable characters
 pub typed_state : (h : Held) (bytes text : List ℕ) → IsTyped h bytes text
     → with_text h text ≡ run h (take (length text) bytes)
 typed_state h bytes text k =
@@ -91,7 +91,7 @@ typed_state h bytes text k =
     ∙ (sym (run_any h.after_cr h.text text k.some k.printable k.short)
     ∙ ap (λ g. run g text) (sym (held_is h k.between k.fits))))
 
--- it gives nothing
+-- a run of printable characters completes no unit
 pub typed_given : (h : Held) (bytes text : List ℕ) → IsTyped h bytes text
     → run_units h (take (length text) bytes) ≡ []
 typed_given h bytes text k =
@@ -99,7 +99,7 @@ typed_given h bytes text k =
     (ap (λ g. run_units g text) (held_is h k.between k.fits)
     ∙ gives_none h.after_cr h.text text k.printable k.short)
 
--- a text of printable characters, found among as many bytes as the line has room for
+-- the printable characters among as many bytes as the line has room for are such a run
 pub is_typed : (h : Held) (bytes text : List ℕ) (m len : ℕ) → h.place ≡ Between → h.too_long ≡ false
     → length h.text ≤ MOST → m ≤ MOST - length h.text → len ≤ length (take m bytes) → len ≢ 0
     → All IsPrintable (take len (take m bytes)) → text ≡ take len bytes → IsTyped h bytes text

@@ -1,4 +1,4 @@
--- Each line among the units is of printable characters, and not too long.
+-- Each line among the units is printable and not too long.
 use Rattle.std.proofs.Common.{ℕ, ◌≡◌, refl, ◌≤◌, arith, Bool, true, false, Option, Some, None, List, [], ◌∷◌, ◌++◌}
 use Rattle.std.proofs.Common.{length, length-append, length-take, ◌-◌, All, if◌then◌else◌, nat_lt, nat_le, ◌&&◌, ◌||◌}
 use Rattle.std.proofs.Common.{◌==◌}
@@ -41,7 +41,7 @@ plain_data after_cr b =
     (plain_if ((b == BS) || (b == DEL)) EraseCharacter _ tt
     (plain_character b))))
 
--- each stroke types a printable character, or none
+-- each stroke types a printable character or no character
 stroke_plain : (after_cr : Bool) (p : Piece) → IsPlain (stroke after_cr p)
 stroke_plain after_cr (Data b) = plain_data after_cr b
 stroke_plain after_cr (Command b) =
@@ -51,7 +51,7 @@ stroke_plain after_cr (Request verb option) =
     plain_if (verb == DO) (Refuse WONT option) _ tt (plain_if (verb == WILL) (Refuse DONT option) Nothing tt tt)
 stroke_plain after_cr Subnegotiation = tt
 
--- the text that is held would be a sound line
+-- the current text would be a sound line
 record IsFit (text : List ℕ) : Type 0 where
   printable : All IsPrintable text
   short : length text ≤ MOST

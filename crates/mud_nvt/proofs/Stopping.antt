@@ -1,4 +1,4 @@
--- The strokes of all bytes, found a byte at a time.
+-- The strokes of all bytes, found byte by byte.
 use Rattle.std.proofs.Common.{ℕ, ◌≡◌, refl, ap, sym, ◌∙◌, List, [], ◌∷◌, ◌++◌, Option, Some, None, append_assoc}
 use Rattle.std.proofs.Common.{append-nil, IsTrue}
 use Rattle.std.specs.List.{list_any}
@@ -14,7 +14,7 @@ use Rattle.mud_nvt.proofs.Cutting.{put, scan, pieces_is}
 use Rattle.mud_nvt.proofs.Typing.{strokes_behind}
 use Rattle.mud_nvt.proofs.Whole.{run-append}
 
--- what these bytes do, from what is held
+-- the strokes of these bytes, from this state
 abbrev run_strokes : Held → List ℕ → List Stroke
 run_strokes h [] = []
 run_strokes h (b ∷ bytes) = byte_strokes h b ++ run_strokes (next h b) bytes
@@ -38,7 +38,7 @@ run_strokes-append : (bytes more : List ℕ) (h : Held)
 run_strokes-append [] more h = refl
 run_strokes-append (b ∷ bytes) more h = rw (run_strokes-append bytes more (next h b), append_assoc) refl
 
--- one byte more does what it does from what is held
+-- one more byte adds its stroke in the state before it
 strokes_more : (bytes : List ℕ) (b : ℕ)
     → strokes (pieces (bytes ++ b ∷ [])) ≡ strokes (pieces bytes) ++ byte_strokes (run start bytes) b
 strokes_more bytes b =

@@ -1,4 +1,4 @@
--- The present line, kept a stroke at a time.
+-- The current line, kept stroke by stroke.
 use Rattle.std.proofs.Common.{ℕ, ◌≡◌, refl, ap, sym, map, zip, ◌∙◌, ◌≤◌, arith, Bool, true, false, ◌||◌, List, [], ◌∷◌}
 use Rattle.std.proofs.Common.{◌++◌, length, length-append, length-take, nat_lt, if◌then◌else◌}
 use Rattle.std.proofs.lemmas.Bool.Decides.{nat_tests}
@@ -11,12 +11,12 @@ use Rattle.mud_nvt.specs.Strokes.{line, is_too_long, stroke, is_cr}
 use Rattle.mud_nvt.specs.Units.{Given, units_at, units_after}
 use Rattle.mud_nvt.specs.inner.Machine.{next_text, next_too_long, stroke_units, without_last}
 
--- what is kept is what these strokes, the latest first, leave of the line
+-- the state is the line that these strokes leave, the latest stroke first
 pub record Keeps (earlier : List Stroke) (too_long : Bool) (text : List ℕ) : Type 0 where
   pub long_is : too_long ≡ is_too_long earlier
   pub text_is : too_long ≡ false → text ≡ line earlier
 
--- a line that isn't too long has at most as many characters as are allowed
+-- a line that is not too long has at most 1,000 characters
 line_fits : (earlier : List Stroke) → is_too_long earlier ≡ false → length (line earlier) ≤ MOST
 line_fits [] h = omega arith
 line_fits (Character c ∷ earlier) h = grind (arith, nat_tests)
@@ -27,12 +27,12 @@ line_fits (AreYouThere ∷ earlier) h = grind (arith, nat_tests)
 line_fits (Refuse verb option ∷ earlier) h = grind (arith, nat_tests)
 line_fits (Nothing ∷ earlier) h = grind (arith, nat_tests)
 
--- what isn't longer than what stood before makes no line too long
+-- a line that does not grow does not become too long
 stays : (b : Bool) (n : ℕ) → (b ≡ false → n ≤ MOST) → (nat_lt MOST n || b) ≡ b
 stays true n h = grind (arith, nat_tests)
 stays false n h = let l : n ≤ MOST = h refl in grind (arith, nat_tests)
 
--- one letter more is too long where there is no room
+-- one more character is too long if there is no room for it
 one_more : (b : Bool) (xs ys : List ℕ) (c : ℕ) → false ≡ b → ys ≡ xs
     → (if nat_lt (length ys) MOST then false else true) ≡ (nat_lt MOST (length (xs ++ c ∷ [])) || b)
 one_more b xs ys c n e = grind (arith, nat_tests, length-append {A = ℕ})
@@ -94,11 +94,11 @@ stroke_units_is AreYouThere earlier too_long text k = refl
 stroke_units_is (Refuse verb option) earlier too_long text k = refl
 stroke_units_is Nothing earlier too_long text k = refl
 
--- what these pieces do, the first of them right after a CR or not
+-- the strokes of these pieces; the flag says whether a CR comes right before the first piece
 abbrev pub strokes_behind : Bool → List Piece → List Stroke
 strokes_behind after_cr ps = map (λ p. stroke p.0 p.1) (zip (after_cr ∷ map is_cr ps) ps)
 
--- the units of these pieces, from what is kept
+-- the units of these pieces, from this state
 abbrev pub walk : Bool → Bool → List ℕ → List Piece → List Given
 walk after_cr too_long text [] = []
 walk after_cr too_long text (p ∷ ps) =

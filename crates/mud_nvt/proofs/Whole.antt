@@ -1,4 +1,4 @@
--- What comes a byte at a time is the units of all bytes.
+-- Feeding bytes one at a time gives the units of all bytes.
 use Rattle.std.proofs.Common.{ℕ, ◌≡◌, refl, ap, sym, ◌∙◌, false, List, [], ◌∷◌, ◌++◌, Option, Some, None, append_assoc}
 use Rattle.std.proofs.Common.{take, drop, ◌+◌}
 use Rattle.std.proofs.Math.Seq.{take-add}
@@ -38,7 +38,8 @@ pub run_units-append : (bytes more : List ℕ) (h : Held)
 run_units-append [] more h = refl
 run_units-append (b ∷ bytes) more h = rw (run_units-append bytes more (next h b), append_assoc) refl
 
--- the units of all bytes are those of the first of them, and what the rest give from there
+-- the units of two lists of bytes are those of the first list, and those that the second list gives from the state in
+-- between
 pub units-append : (bytes more : List ℕ) → units (bytes ++ more) ≡ units bytes ++ run_units (run start bytes) more
 units-append bytes more = rw (units_is (bytes ++ more), units_is bytes) (run_units-append bytes more start)
 
@@ -50,7 +51,7 @@ takes_in old new before after bytes n a = record {
       (run_units old bytes, a, units-append earlier bytes ∙ ap (λ h. units earlier ++ run_units h bytes) (sym s.is));
 }
 
--- after the bytes that are taken next
+-- the state after the bytes consumed next
 pub more_state : (h g n : Held) (bytes : List ℕ) (i k : ℕ) → g ≡ run h (take i bytes)
     → n ≡ run g (take k (drop i bytes)) → n ≡ run h (take (i + k) bytes)
 more_state h g n bytes i k e f =

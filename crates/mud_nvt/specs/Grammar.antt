@@ -1,20 +1,20 @@
--- The pieces of an input by a grammar: each has its spellings, and the rest is less than a whole one.
+-- A grammar of the stream: each piece has its spellings, and the rest is less than a whole piece.
 use Rattle.std.specs.Prelude.{ℕ, List, [], ◌∷◌, ◌++◌, ◌==◌, true, false, ◌≡◌, ◌≢◌, ◌||◌, Bool}
 use Rattle.mud_nvt.specs.declared.codes.TheConstants.{IAC, SE, SB, WILL, WONT, DO, DONT}
 use Rattle.mud_nvt.specs.declared.telnet.Piece.{Piece}
 use Rattle.mud_nvt.specs.declared.telnet.Piece.TheVariants.{Data, Command, Request, Subnegotiation}
 
--- whether the byte is one of the four that ask about an option
+-- true for the four verbs that concern an option
 abbrev pub is_verb : ℕ → Bool
 is_verb b = (b == WILL) || (b == WONT) || (b == DO) || (b == DONT)
 
--- what may stand inside a subnegotiation: bytes, and IAC with another byte than SE after it
+-- the inside of a subnegotiation: bytes, and IAC followed by a byte that is not SE
 pub data IsInside : List ℕ → Type 0 where
   at_end : IsInside []
   a_byte : (b : ℕ) (bytes : List ℕ) → (b == IAC) ≡ false → IsInside bytes → IsInside (b ∷ bytes)
   a_pair : (b : ℕ) (bytes : List ℕ) → (b == SE) ≡ false → IsInside bytes → IsInside (IAC ∷ b ∷ bytes)
 
--- a piece, and bytes that spell it
+-- the bytes spell the piece
 pub data Spells : Piece → List ℕ → Type 0 where
   a_plain_byte : (b : ℕ) → (b == IAC) ≡ false → Spells (Data b) (b ∷ [])
   a_doubled_iac : Spells (Data IAC) (IAC ∷ IAC ∷ [])
@@ -22,7 +22,7 @@ pub data Spells : Piece → List ℕ → Type 0 where
   a_request : (verb option : ℕ) → is_verb verb ≡ true → Spells (Request verb option) (IAC ∷ verb ∷ option ∷ [])
   a_subnegotiation : (inside : List ℕ) → IsInside inside → Spells Subnegotiation (IAC ∷ SB ∷ (inside ++ IAC ∷ SE ∷ []))
 
--- the bytes are the spellings of these pieces, one after the other, and then a rest with no piece in front
+-- the bytes are the spellings of these pieces in order, followed by a rest that does not begin with a piece
 pub data Cuts : List ℕ → List Piece → Type 0 where
   to_rest : (rest : List ℕ) → ((p : Piece) (front back : List ℕ) → Spells p front → rest ≢ front ++ back) → Cuts rest []
   to_piece : (p : Piece) (front back : List ℕ) (ps : List Piece) → Spells p front → Cuts back ps

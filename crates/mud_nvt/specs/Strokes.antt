@@ -1,6 +1,6 @@
--- What the pieces do to the line that is being typed. Pieces lie side by side, commands, requests and subnegotiations
--- among them, and a CR, LF or NUL of data is a piece of one byte: so the very next byte after a CR is a LF just where
--- the next piece is one, and in CR, IAC NOP, LF the command lies between.
+-- The effect of the pieces on the current line. Every command, request, subnegotiation and data byte is a piece of its
+-- own. So the byte after a CR is a LF exactly if the next piece is one, and in CR, IAC NOP, LF a command comes in
+-- between.
 use Rattle.std.specs.Prelude.{ℕ, List, [], ◌∷◌, ◌++◌, length, take, map, ◌-◌, ◌==◌, ◌||◌, ◌&&◌, nat_lt, nat_le, Bool}
 use Rattle.std.specs.Prelude.{false, if◌then◌else◌}
 use Rattle.std.specs.List.{zip}
@@ -13,13 +13,13 @@ use Rattle.mud_nvt.specs.declared.strokes.Stroke.{Stroke}
 use Rattle.mud_nvt.specs.declared.strokes.Stroke.TheVariants.{Character, EraseCharacter, EraseLine, EndLine}
 use Rattle.mud_nvt.specs.declared.strokes.Stroke.TheVariants.{AreYouThere, Refuse, Nothing}
 
--- whether the piece is the data byte CR
+-- true if the piece is the data byte CR
 abbrev pub is_cr : Piece → Bool
 is_cr (Data b) = b == CR
 is_cr other = false
 
--- what a piece does, right after a CR or not: CR and LF end the line, but for a LF or NUL right after a CR; DO is
--- refused by WONT, WILL by DONT, and WONT and DONT are never answered
+-- the effect of a piece; the flag says whether a CR comes right before it. CR and LF end the line, except a LF or NUL
+-- right after a CR. DO is refused by WONT and WILL by DONT; WONT and DONT are never answered
 abbrev pub stroke : Bool → Piece → Stroke
 stroke after_cr (Data b) =
     if after_cr && ((b == LF) || (b == NUL)) then Nothing
@@ -34,11 +34,11 @@ stroke after_cr (Request verb option) =
     if verb == DO then Refuse WONT option else (if verb == WILL then Refuse DONT option else Nothing)
 stroke after_cr Subnegotiation = Nothing
 
--- what each piece does, told whether the piece before it is a CR
+-- the effect of each piece, given whether the piece before it is a CR
 abbrev pub strokes : List Piece → List Stroke
 strokes ps = map (λ p. stroke p.0 p.1) (zip (false ∷ map is_cr ps) ps)
 
--- the present line after these strokes, the latest of them first
+-- the current line after these strokes, the latest stroke first
 abbrev pub line : List Stroke → List ℕ
 line [] = []
 line (Character c ∷ earlier) = line earlier ++ c ∷ []
@@ -47,7 +47,7 @@ line (EraseLine ∷ earlier) = []
 line (EndLine ∷ earlier) = []
 line (other ∷ earlier) = line earlier
 
--- whether more than 1,000 characters stood in the present line at once, since it began or the last EL
+-- true if the current line held more than 1,000 characters at some time since it began or since the last EL
 abbrev pub is_too_long : List Stroke → Bool
 is_too_long [] = false
 is_too_long (EraseLine ∷ earlier) = false

@@ -1,4 +1,4 @@
--- What a caller sees of units: not how much room a text takes, nor where.
+-- Units as a caller sees them: without the capacity or the address of a text.
 use Rattle.std.specs.Prelude.{List, map}
 use Rattle.std.specs.String.{string_bytes}
 use Rattle.mud_nvt.specs.declared.Unit.{Unit as CodeUnit}

@@ -1,6 +1,6 @@
-//! The bytes that have a name: RFC 854's commands, and the control characters of USASCII.
+//! Named bytes: the commands of RFC 854, and the control characters of US-ASCII.
 
-/// Interpret as command: begins a command. Twice, it is the data byte 255.
+/// Interpret as command: begins a command. IAC IAC is the data byte 255.
 pub const IAC: u8 = 255;
 /// Subnegotiation end.
 pub const SE: u8 = 240;
@@ -14,7 +14,7 @@ pub const EL: u8 = 248;
 pub const SB: u8 = 250;
 /// The sender offers to use an option.
 pub const WILL: u8 = 251;
-/// The sender won't use an option.
+/// The sender refuses to use an option.
 pub const WONT: u8 = 252;
 /// The sender asks the receiver to use an option.
 pub const DO: u8 = 253;
@@ -34,7 +34,7 @@ pub const CR: u8 = 13;
 /// Delete.
 pub const DEL: u8 = 127;
 
-/// The first of the characters.
+/// The first printable character.
 pub const SPACE: u8 = 32;
-/// The last of the characters.
+/// The last printable character.
 pub const TILDE: u8 = 126;

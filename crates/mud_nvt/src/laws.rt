@@ -1,4 +1,4 @@
-//! What is proved of definitions only. Each law is what an empty function ensures.
+//! Laws of the definitions. Each contract is a law, and its function does nothing.
 
 ghost use Rattle.std.specs.Prelude.{◌≡◌, ◌↔◌, ℕ, List, All, ◌++◌};
 ghost use Rattle.mud_nvt.specs.declared.telnet.Piece.{Piece};
@@ -10,27 +10,27 @@ ghost use Rattle.mud_nvt.specs.declared.TheConstants.{MOST};
 ghost use Rattle.mud_nvt.specs.declared.codes.TheConstants.{IAC, SE, AYT, EC, EL, SB, WILL, WONT, DO, DONT};
 ghost use Rattle.mud_nvt.specs.declared.codes.TheConstants.{NUL, BS, HT, LF, CR, DEL, SPACE, TILDE};
 
-/// The pieces of any bytes are those that the grammar allows, and no others are.
+/// The grammar cuts any bytes into exactly the pieces of the definition.
 pub fn cutting()
     ensures { (bytes : List ℕ) (others : List Piece) → Cuts bytes others ↔ (pieces bytes ≡ others) }
 {}
 
-/// What is given stays given: the units of more bytes begin with the units of the first of them.
+/// Units are never taken back: the units of some bytes are a prefix of the units of these bytes and any later ones.
 pub fn permanence()
     ensures { (bytes more : List ℕ) → (fresh : List Given) × (units (bytes ++ more) ≡ units bytes ++ fresh) }
 {}
 
-/// Each line among the units is of bytes 32 to 126, and of 1,000 at most.
+/// Each line among the units has at most 1,000 characters, each of them a byte from 32 to 126.
 pub fn soundness()
     ensures { (bytes : List ℕ) → All IsSound (units bytes) }
 {}
 
-/// The limit of a line.
+/// Promises the greatest length of a line.
 pub fn limits()
     ensures most { MOST ≡ 1000 }
 {}
 
-/// The bytes that have a name are those of RFC 854 and USASCII.
+/// Promises that the named bytes have the values of RFC 854 and US-ASCII.
 pub fn codes()
     ensures commands { (IAC ≡ 255) × (SE ≡ 240) × (AYT ≡ 246) × (EC ≡ 247) × (EL ≡ 248) × (SB ≡ 250) }
     ensures requests { (WILL ≡ 251) × (WONT ≡ 252) × (DO ≡ 253) × (DONT ≡ 254) }

@@ -1,8 +1,8 @@
-//! Lines of a network virtual terminal (NVT, RFC 854), from any cutting of the stream.
+//! Splits a Telnet stream into lines (network virtual terminal, RFC 854), however the stream is cut.
 //!
-//! A session reads a connection in pieces that may be cut anywhere. [`Nvt`] takes them in, and
-//! gives units: a whole line, a line that is too long, the question whether anyone is there, and
-//! the bytes that answer a request. [`write_line`] adds a line that is sent.
+//! A session reads a connection in pieces that may be cut anywhere. [`Nvt`] consumes the pieces and returns units: a
+//! whole line, a line that is too long, a query whether anyone is there, or the bytes that answer a request.
+//! [`write_line`] appends an outgoing line.
 //!
 //! ```rust
 //! let mut nvt: Nvt = Nvt::new(alloc);
@@ -19,22 +19,22 @@
 //! }
 //! ```
 //!
-//! **The rules**, which `docs/TELNET.md` gives with the section of RFC 854 that each comes from:
-//! requests are refused, subnegotiations and other commands skipped; LF ends a line, and so does
-//! CR, whose very next byte is swallowed where it is LF or NUL; EC, 8 and 127 take the last
-//! character, EL the whole line; a line in which more than 1,000 characters stood at once is too
-//! long.
+//! **The rules.** `docs/TELNET.md` names the section of RFC 854 for each of them:
 //!
-//! **What is proved.** The units of all bytes are defined over the whole list, without any state
-//! (`specs/Telnet`, `specs/Strokes`, `specs/Units`). Whatever pieces came, the units so far are
-//! those of all bytes so far. Where memory is refused, `feed` says how many bytes are done: the
-//! units are those up to there, the next byte is one that types a character or gives a unit, and
-//! feeding the rest goes on as if nothing had happened. Texts are of bytes 32 to 126, at most
-//! 1,000 of them. No byte makes the terminal fail. [`laws`] has what is proved of the definitions.
+//! - The terminal refuses every option, and skips subnegotiations and other commands.
+//! - LF ends a line. CR ends a line too, and swallows the next byte if that is LF or NUL.
+//! - EC, 8 and 127 erase the last character, and EL erases the line.
+//! - A line that ever held more than 1,000 characters is too long.
 //!
-//! **Time and memory.** Each byte takes constant time, but that a line that grows is copied now
-//! and then, at doubled room. A terminal holds one line of at most 1,000 characters, and nothing
-//! of a subnegotiation.
+//! **What is proved.** `specs/Telnet`, `specs/Strokes` and `specs/Units` define the units of a whole list of bytes,
+//! without any state. However the stream was cut, the units so far are those of all bytes so far. If an allocation
+//! fails, `feed` returns the number of bytes that it consumed. The units are those of the consumed bytes, the next byte
+//! types a character or completes a unit, and feeding the rest continues as if nothing had happened. Each text has at
+//! most 1,000 bytes, each from 32 to 126. No byte makes the terminal fail. [`laws`] has the facts about the
+//! definitions.
+//!
+//! **Time and memory.** Each byte takes constant time, except when a growing line is copied to a buffer of twice its
+//! size. A terminal holds one line of at most 1,000 characters, and nothing of a subnegotiation.
 #![tactic(auto)]
 
 ghost use Rattle.std.specs.Prelude.{◌≡◌, ◌≤◌, [], ◌∷◌, ◌++◌, length, OnOk, OnErr, IfOk, IfErr, IsTrue, take};
@@ -64,38 +64,34 @@ use telnet::{Position, step};
 use thiserror::Error;
 use typed::printable_len;
 
-/// The most characters that may stand in a line at once. This project's profile: RFC 854 sets no
-/// limit.
+/// The greatest number of characters in a line. This project's own profile: RFC 854 sets no limit.
 pub const MOST: usize = 1000;
 
-/// What the bytes give, each where it is complete.
+/// An event of the stream. It is returned as soon as its last byte arrived.
 #[derive(Debug, Drop)]
 pub enum Unit<A: Allocator = Global> {
-    /// A line that was ended by LF or CR: the characters that were left in it, bytes 32 to 126,
-    /// at most 1,000 (RFC 854, "The NVT printer and keyboard").
+    /// A line that LF or CR ended, after erasing: at most 1,000 bytes from 32 to 126 (RFC 854, "The NVT printer and
+    /// keyboard").
     Text(String<A>),
-    /// A line that was ended, and in which more than 1,000 characters stood at once since its
-    /// start or the last EL.
+    /// The end of a line that held more than 1,000 characters at some time since its start or the last EL.
     TooLong,
-    /// AYT: the other side asks for a visible sign that anyone is there (RFC 854, "Standard
-    /// representation of control functions").
+    /// AYT: the other side asks for a visible sign that anyone is there (RFC 854, "Standard representation of control
+    /// functions").
     Ayt,
-    /// A request was refused: these bytes are to be sent back, WONT for DO and DONT for WILL
-    /// (RFC 854, "General considerations").
+    /// The reply to a request, to be sent back: WONT for DO, or DONT for WILL (RFC 854, "General considerations").
     Answer([u8; 3]),
 }
 
-/// Memory was refused. The first `taken` bytes of the piece are done, and the rest may be fed
-/// again.
+/// An allocation failed. The first `taken` bytes of the input are consumed, and the caller may feed the rest again.
 #[derive(Clone, Copy, Debug, PartialEq, Eq, Error)]
 #[error("out of memory after {taken} bytes")]
 pub struct Stop {
-    /// How many bytes of the piece are done.
+    /// The number of consumed bytes.
     pub taken: usize,
 }
 
-/// The receiving side of a network virtual terminal. Its lines, and the lines that it gives, take
-/// their memory from `A`.
+/// The receiving side of a network virtual terminal. `A` allocates the line that it holds and the lines that it
+/// returns.
 #[derive(Drop)]
 pub struct Nvt<A: Allocator = Global> {
     place: Position,
@@ -129,7 +125,7 @@ impl<A: Allocator> Model for Nvt<A> {
 }
 
 impl<A: Allocator + Clone + Drop> Nvt<A> {
-    /// A terminal to which nothing came.
+    /// Returns a terminal in its initial state.
     pub fn new(alloc: A) -> Nvt<A>
         ensures { StandsAfter result [] }
     {
@@ -141,16 +137,16 @@ impl<A: Allocator + Clone + Drop> Nvt<A> {
         }
     }
 
-    /// Takes in the next bytes, and adds the units that are complete now at the end of `units`.
+    /// Consumes the next bytes, and appends each unit that they complete to `units`.
     ///
-    /// The only error is a [`Stop`], where memory is refused: the first `taken` bytes are done,
-    /// and `feed` may go on with the rest, `&bytes[stop.taken..]`.
+    /// The only error is [`Stop`], when an allocation fails. The first `taken` bytes are consumed then, and the caller
+    /// may continue with `&bytes[stop.taken..]`.
     pub fn feed(&mut self, bytes: &[u8], units: &mut Vec<Unit<A>, A>) -> Result<(), Stop>
         ensures ok { let before = all_shown units.old.items in
             let after = all_shown units.new.items in
             OnOk result (TakesIn self.old self.new before after bytes.now) }
 
-        // On a `Stop` the first bytes are taken in, and the next one is a byte that needs memory.
+        // On a `Stop` the first bytes are consumed, and the next byte is one that needs memory.
         ensures stop { let before = all_shown units.old.items in
             let after = all_shown units.new.items in
             IfErr result (λ stop. TakesIn self.old self.new before after (take stop.taken bytes.now)) }
@@ -158,7 +154,7 @@ impl<A: Allocator + Clone + Drop> Nvt<A> {
         ensures memory { IfErr result (λ stop.
             StopsBefore self.old (take stop.taken bytes.now) (slice_index bytes.now stop.taken)) }
 
-        // Each text is of printable characters, and of 1,000 at most.
+        // Each text has at most 1,000 printable characters.
         ensures sound { All IsSound (all_shown units.old.items) → All IsSound (all_shown units.new.items) }
     {
         let mut taken = 0;
@@ -171,7 +167,8 @@ impl<A: Allocator + Clone + Drop> Nvt<A> {
         Ok(())
     }
 
-    // Takes in the characters that stand in front, or else the first byte, and says how many bytes that is.
+    // Consumes the leading printable characters, or the first byte if there are none. Returns the number of consumed
+    // bytes.
     fn take_front(&mut self, bytes: &[u8], units: &mut Vec<Unit<A>, A>) -> Result<usize, AllocError>
         requires { 0 < length bytes.now }
         ensures some { IfOk result (λ n. 0 < n) }
@@ -197,7 +194,7 @@ impl<A: Allocator + Clone + Drop> Nvt<A> {
         }
     }
 
-    // The characters in front, if there are any and all go to the end of the line.
+    // Returns the leading printable characters, if there are any and all of them go to the end of the line.
     fn plain_front<'a>(&self, bytes: &'a [u8]) -> Option<&'a str>
         ensures { IfSome result (λ text. IsTyped self.now bytes.now text.now) }
     {
@@ -218,7 +215,7 @@ impl<A: Allocator + Clone + Drop> Nvt<A> {
         }
     }
 
-    // Adds characters at the end of the line.
+    // Appends characters to the line.
     fn add_text(&mut self, text: &str) -> Result<(), AllocError>
         requires printable { All IsPrintable text.now }
         requires short { length self.old.text + length text.now ≤ MOST }
@@ -317,7 +314,7 @@ impl<A: Allocator + Clone + Drop> Nvt<A> {
         Ok(())
     }
 
-    // What the end of the line gives; the next line begins.
+    // Returns the unit that the end of the line completes, and begins the next line.
     fn take_line(&mut self) -> Result<Unit<A>, AllocError>
         ensures state { OnOk result (self.new ≡ after_stroke self.old Stroke.EndLine) }
         ensures given { IfOk result (λ unit.
@@ -334,7 +331,7 @@ impl<A: Allocator + Clone + Drop> Nvt<A> {
     }
 }
 
-// Adds a unit at the end.
+// Appends a unit.
 fn give<A: Allocator + Drop>(units: &mut Vec<Unit<A>, A>, unit: Unit<A>) -> Result<(), AllocError>
     ensures given { OnOk result (all_shown units.new.items ≡ all_shown units.old.items ++ unit_shown unit ∷ []) }
     ensures err { OnErr result (all_shown units.new.items ≡ all_shown units.old.items) }
@@ -343,14 +340,13 @@ fn give<A: Allocator + Drop>(units: &mut Vec<Unit<A>, A>, unit: Unit<A>) -> Resu
     Ok(())
 }
 
-/// Adds a line that is sent: the text, CR and LF (RFC 854, "The NVT printer and keyboard").
+/// Appends an outgoing line: the text, CR and LF (RFC 854, "The NVT printer and keyboard").
 ///
-/// [`Nvt::feed`] takes in what a terminal sends, and this is the other direction, for those who
-/// write lines to a terminal. A program that writes to a file ends its lines with LF alone, and
-/// has no use for it.
+/// A program that writes to a terminal uses it. A program that writes to a file does not need it, because the lines of
+/// a file end with LF alone.
 ///
-/// The text is sent as it is, so it should be of bytes 32 to 126. Where memory is refused `out`
-/// stays as it was.
+/// The text is appended unchanged, so each of its bytes should be from 32 to 126. If an allocation fails, `out` is
+/// unchanged.
 pub fn write_line<A: Allocator>(text: &str, out: &mut Vec<u8, A>) -> Result<(), AllocError>
     ensures ok { OnOk result (out.new.items ≡ out.old.items ++ text.now ++ CR ∷ LF ∷ []) }
     ensures err { OnErr result (out.new.items ≡ out.old.items) }

@@ -1,4 +1,4 @@
-//! What a piece does to the line that is being typed.
+//! The effect of a piece on the current line.
 
 ghost use Rattle.std.specs.Prelude.{◌≡◌};
 ghost use Rattle.mud_nvt.specs.Strokes.{stroke, is_cr};
@@ -7,26 +7,26 @@ ghost use Rattle.mud_nvt.specs.inner.Lines.{IsPlain};
 use crate::codes::{AYT, BS, CR, DEL, DO, DONT, EC, EL, HT, LF, NUL, SPACE, TILDE, WILL, WONT};
 use crate::telnet::Piece;
 
-/// What a piece does.
+/// The effect of a piece.
 #[derive(Clone, Copy)]
 pub enum Stroke {
-    /// A character at the end of the line.
+    /// Appends a character to the line.
     Character(u8),
-    /// The last character of the line goes.
+    /// Erases the last character of the line.
     EraseCharacter,
-    /// The whole line goes.
+    /// Erases the line.
     EraseLine,
-    /// The line ends.
+    /// Ends the line.
     EndLine,
-    /// Are you there.
+    /// Asks whether anyone is there.
     AreYouThere,
-    /// A request is refused, by this verb for this option.
+    /// Refuses a request, with this verb for this option.
     Refuse(u8, u8),
-    /// Nothing.
+    /// Has no effect.
     Nothing,
 }
 
-/// What the piece does, where it stands right after a CR or not.
+/// Returns the effect of the piece. It depends on whether a CR stands right before the piece.
 pub fn stroke_of(after_cr: bool, piece: Piece) -> Stroke
     ensures stroke { result ≡ stroke after_cr piece }
     ensures plain { IsPlain result }
@@ -49,7 +49,7 @@ pub fn stroke_of(after_cr: bool, piece: Piece) -> Stroke
     }
 }
 
-/// Whether the piece is a CR.
+/// Returns whether the piece is a CR.
 pub fn is_return(piece: Piece) -> bool
     ensures { result ≡ is_cr piece }
 {

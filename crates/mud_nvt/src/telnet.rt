@@ -1,24 +1,24 @@
-//! Which bytes belong together: the pieces of what comes over the connection.
+//! Splits a Telnet stream into pieces: data bytes, commands, requests and subnegotiations.
 
 ghost use Rattle.std.specs.Prelude.{◌≡◌};
 ghost use Rattle.mud_nvt.specs.inner.Machine.{next_place, finished_piece};
 
 use crate::codes::{DO, DONT, IAC, SB, SE, WILL, WONT};
 
-/// A whole piece of what comes over the connection.
+/// A whole piece of the stream.
 #[derive(Clone, Copy)]
 pub enum Piece {
-    /// A data byte. 255 came as two.
+    /// A data byte. The data byte 255 is sent as IAC IAC.
     Data(u8),
-    /// IAC and a byte.
+    /// IAC and one byte.
     Command(u8),
     /// IAC, one of WILL, WONT, DO and DONT, and the number of an option.
     Request(u8, u8),
-    /// All from IAC SB up to IAC SE.
+    /// Everything from IAC SB to IAC SE.
     Subnegotiation,
 }
 
-/// How far the piece that has begun has come.
+/// The position inside the piece that has begun.
 #[derive(Clone, Copy)]
 pub enum Position {
     /// No piece has begun.
@@ -33,7 +33,7 @@ pub enum Position {
     InsideBehindIac,
 }
 
-/// Where the next byte leads, and the piece that it finishes.
+/// Returns the position after the byte, and the piece that the byte completes.
 pub fn step(place: Position, byte: u8) -> (Position, Option<Piece>)
     ensures place { result.0 ≡ next_place place byte }
     ensures piece { result.1 ≡ finished_piece place byte }

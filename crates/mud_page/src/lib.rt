@@ -1,5 +1,5 @@
-//! `mud_page`: the page of the door on the web, one file, which loads nothing else. Its sources are in `page/`, and a
-//! test compares what is here with them.
+//! `mud_page`: the page of the web listener, a single file that loads nothing else. Its sources are in `page/`, and a
+//! test compares them with this crate.
 #![tactic(auto)]
 
 mod page;

@@ -1,5 +1,5 @@
--- Of the walks of least cost one has the fewest exits: the roads of each room are a list, so the walks of so many exits
--- can be gone through.
+-- One of the walks with the least cost has the fewest exits: the roads of each room are a list, so the walks with a
+-- given number of exits are finite in number.
 use Rattle.std.proofs.Common.{◌≡◌, ◌≢◌, ℕ, zero, suc, ◌+◌, ◌<◌, ◌≤◌, ◌⊎◌, inl, inr, List, [], ◌∷◌, length, refl, sym}
 use Rattle.std.proofs.Common.{◌∙◌, ap, subst, arith}
 use Rattle.std.specs.Prelude.{sum_by, Contains}
@@ -10,7 +10,7 @@ use Rattle.mud_roads.specs.declared.label.Step.{Step}
 use Rattle.mud_roads.specs.Walks.{Roads, Walk, total, IsLeast, Goer, HasLeast, Gathers}
 use Rattle.mud_roads.specs.Laws.{LeastIsAlike, MeetingIsAlike}
 
--- it holds, or does not
+-- it holds or it does not
 abbrev Decided : Type 0 → Type 0
 Decided P = P ⊎ (P → ⊥)
 
@@ -104,7 +104,7 @@ decide-walk roads to c (suc n) from k =
 abbrev exits : ℕ → List Step → ℕ
 exits hop ss = sum_by (λ s. hop) ss
 
--- more exits count as much or more
+-- more exits never count less
 exits-rise : (hop : ℕ) (ss ts : List Step) → length ss ≤ length ts → exits hop ss ≤ exits hop ts
 exits-rise hop [] ts h = omega arith
 exits-rise hop (s ∷ ss) [] h = absurd (omega (arith, h))

@@ -1,4 +1,4 @@
--- Labels bound the walks.
+-- Labels are bounds on walks.
 use Rattle.std.proofs.Common.{◌≡◌, ℕ, ◌+◌, List, [], ◌∷◌, Option, None, Some, refl, sym, ◌∙◌, ap, subst, arith}
 use Rattle.std.specs.Prelude.{sum_by}
 use Rattle.std.proofs.lemmas.List.Sums.{sum_by-cons}
@@ -11,7 +11,7 @@ use Rattle.mud_roads.specs.Laws.{ValidIsLeast}
 pub at_most-trans : (a b c : Label) → AtMost a b → AtMost b c → AtMost a c
 at_most-trans a b c p q = (omega arith, λ e. omega arith)
 
--- the label this walk on
+-- the label after this walk
 abbrev pub plus : ℕ → Label → List Step → Label
 plus hop l ss =
     record { cost = l.cost + sum_by (λ (s : Step). s.cost) ss; exits = l.exits + sum_by (λ (s : Step). hop) ss }
@@ -30,7 +30,7 @@ pub reaches-weaken : (labels : ℕ → Option Label) (room : ℕ) (a b : Label) 
     → AtMost a b → Reaches labels room b
 reaches-weaken labels room a b (k, e, p) q = (k, e, at_most-trans k a b p q)
 
--- valid labels bound each walk on from a labelled room
+-- valid labels bound each walk that continues from a labelled room
 pub walk_bounded : (hop : ℕ) (roads : Roads) (from : ℕ) (labels : ℕ → Option Label) → AreValid hop roads from labels
     → (ss : List Step) (at to : ℕ) (l : Label) → labels at ≡ Some l → Walk roads at ss to
     → Reaches labels to (plus hop l ss)
@@ -44,7 +44,7 @@ walk_bounded hop roads from labels v (s ∷ ss) at to l e (c, w) =
     (plus hop (after hop l s) ss) rest (at_most-plus hop step.0 (after hop l s) ss step.2) in
     reaches-weaken labels to (plus hop (after hop l s) ss) (plus hop l (s ∷ ss)) two (plus-cons hop l s ss)
 
--- and each walk from the start
+-- so they bound each walk from the start
 pub walk_from_start : (hop : ℕ) (roads : Roads) (from : ℕ) (labels : ℕ → Option Label) → AreValid hop roads from labels
     → (ss : List Step) (to : ℕ) → Walk roads from ss to → Reaches labels to (total hop ss)
 walk_from_start hop roads from labels v ss to w =

@@ -1,4 +1,4 @@
--- What a traveller knows of each number.
+-- The knowledge of a traveller about each number.
 use Rattle.std.proofs.Common.{◌≡◌, ℕ, ◌<◌, ◌≤◌, ◌⊎◌, inl, inr, [], map, get_or, sym, ◌∙◌, arith}
 use Rattle.std.specs.List.{range_with_len}
 use Rattle.std.proofs.lemmas.Bool.{cases_lt}
@@ -9,7 +9,7 @@ use Rattle.mud_world.specs.Sound.{IsSound}
 use Rattle.mud_roads.specs.Passable.{roads_of}
 use Rattle.mud_roads.proofs.Roads.{no-roads-past}
 
--- the list of a player's roads, up to the next number, answers for every number
+-- the list of a player's roads, up to the next number, covers every number
 pub roads-all : (w : State) → IsSound w → (p room : ℕ)
     → get_or (map (roads_of w p) (range_with_len 0 w.next)) room [] ≡ roads_of w p room
 roads-all w sound p room = go (cases_lt room w.next)

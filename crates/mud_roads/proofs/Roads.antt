@@ -1,4 +1,4 @@
--- The roads of a player are the steps of the exits that are open to him, by rising number.
+-- The roads of a player are the steps of the exits that are open to the player, sorted by number.
 use Rattle.std.proofs.Common.{◌≡◌, ℕ, zero, suc, ◌+◌, ◌<◌, ◌≤◌, ◌⊎◌, inl, inr, true, false, cond, List, [], ◌∷◌, Option}
 use Rattle.std.proofs.Common.{Some, None, refl, sym, ◌∙◌, ap, subst, arith, ⊎_elim}
 use Rattle.std.specs.Prelude.{nat_eq, IsTrue, Contains, All, AllPairs, ◌↔◌}
@@ -21,7 +21,7 @@ use Rattle.mud_roads.specs.declared.label.Step.{Step}
 use Rattle.mud_roads.specs.Passable.{passable, step_by, open_step, roads_of, Knowledge, IsTraveller}
 use Rattle.mud_roads.specs.Laws.{IsRoad}
 
--- ---- what a list of numbers gives
+-- ---- the steps of a list of numbers
 pub passage_cases : {P : Type 0} (v : Option Passage) → (v ≡ None → P) → ((a : Passage) → v ≡ Some a → P) → P
 passage_cases None f g = f refl
 passage_cases (Some a) f g = g a refl
@@ -72,7 +72,7 @@ gives f (x ∷ xs) s n among is =
     (later-contains t s (filter_map f xs) (again later))))
     (or_cases _ _ among)
 
--- steps that keep the number are as rising as the numbers
+-- steps that keep the number are sorted if the numbers are
 module _ (f : ℕ → Option Step) (numbered : (n : ℕ) (s : Step) → f n ≡ Some s → s.exit ≡ n) where
   from-low : (low low' : ℕ) (xs : List ℕ) → low ≤ low' → IsRisingFrom low' xs
       → All (λ s. low ≤ s.exit) (filter_map f xs)
@@ -141,14 +141,14 @@ open-road w p room n s from e =
     subst (λ (x : Step). IsRoad w p room x) o.step
     (o.is ∙ ap (λ r. Some (record o.passage { source = r })) same, o.passes)
 
--- and a road is the step of its exit
+-- and each road is the step of its exit
 pub road-open : (w : State) (p room : ℕ) (s : Step) → IsRoad w p room s → open_step w p s.exit ≡ Some s
 road-open w p room s road =
     ap (λ b. cond b (option_map (step_by s.exit) (passage_of w s.exit)) None) road.1
     ∙ ap (option_map (step_by s.exit)) road.0
 
 -- ---- the roads
--- a step of the roads is that of an open exit of the room
+-- each step of the roads is that of an open exit of the room
 pub road-at : (w : State) → IsSound w → (p room : ℕ) (s : Step) → Contains (roads_of w p room) s → IsRoad w p room s
 unfolding roads_of
 road-at w sound p room s c =
@@ -162,7 +162,7 @@ road-to w sound p room s road =
     gives (open_step w p) (leaving_of w room) s s.exit
     (((leaving_law w sound room).0 s.exit).1 (ap (option_map (λ p. p.source)) road.0)) (road-open w p room s road)
 
--- by rising number
+-- sorted by number
 pub roads-rise : (w : State) → IsSound w → (p room : ℕ) → AllPairs (λ a b. a.exit < b.exit) (roads_of w p room)
 unfolding roads_of
 roads-rise w sound p room =
@@ -173,7 +173,7 @@ pub roads_law : (w : State) → IsSound w → (p room : ℕ)
     × AllPairs (λ a b. a.exit < b.exit) (roads_of w p room)
 roads_law = λ w sound p room. (λ s. (road-at w sound p room s, road-to w sound p room s), roads-rise w sound p room)
 
--- ---- where roads and travellers are
+-- ---- the places of roads and travellers
 pub room-below : (w : State) → IsSound w → (n : ℕ) → IsTrue (is_room w n) → n < w.next
 room-below w sound n room =
     record_cases (record_at w n)
@@ -210,7 +210,7 @@ steps-inside w sound p room s c =
     (road-at w sound p room s c).0 in
     (room-below w sound s.to well.1, well.2)
 
--- nothing leaves a number that was never given
+-- no exit leaves a number that was never given
 pub no-roads-past : (w : State) → IsSound w → (p room : ℕ) → w.next ≤ room → roads_of w p room ≡ []
 no-roads-past w sound p room past = go (roads_of w p room) refl
   where
@@ -221,7 +221,7 @@ no-roads-past w sound p room past = go (roads_of w p room) refl
         let c : Contains (roads_of w p room) s = subst (λ (l : List Step). Contains l s) (sym e) first in
         absurd (let below = room-below w sound room (steps-rooms w sound p room s c).0 in omega (arith, below))
 
--- a player stands in a room
+-- a player is in a room
 pub player-place : (w : State) → IsSound w → (p place : ℕ) → IsTrue (is_player w p)
     → place_of w p ≡ Some place → IsTrue (is_room w place)
 player-place w sound p place player at =

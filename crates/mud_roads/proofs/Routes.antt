@@ -1,4 +1,4 @@
--- A least walk ends with a step that goes on from a least walk.
+-- The last step of a least walk continues a least walk.
 use Rattle.std.proofs.Common.{◌≡◌, ℕ, ◌+◌, ◌⊎◌, inl, inr, List, [], ◌∷◌, ◌++◌, Option, None, Some, refl, sym, ◌∙◌, ap}
 use Rattle.std.proofs.Common.{subst, arith}
 use Rattle.std.specs.Prelude.{Contains}
@@ -20,7 +20,7 @@ at_most-both a b p q =
     let same : a.cost ≡ b.cost = omega arith in
     label-ext a b same (let one = p.1 same in let two = q.1 (sym same) in omega arith)
 
--- a walk with a step more
+-- a walk with one more step
 pub walk-snoc : (roads : Roads) (ss : List Step) (from by : ℕ) (s : Step) → Walk roads from ss by
     → Contains (roads by) s → Walk roads from (ss ++ s ∷ []) s.to
 walk-snoc roads [] from by s w c =
@@ -60,7 +60,7 @@ total-snoc hop ss s =
     label-ext (total hop (ss ++ s ∷ [])) (after hop (total hop ss) s) (sum_by_push (λ (x : Step). x.cost) ss s)
     (sum_by_push (λ (x : Step). hop) ss s)
 
--- where the last step comes from, the least label is one step back
+-- before the last step, the least label is one step less
 pub least-back : (hop : ℕ) (roads : Roads) (from to by : ℕ) (l k : Label) (ss : List Step) (s : Step)
     → IsLeast hop roads from to l → IsLeast hop roads from by k
     → Walk roads from ss by → Contains (roads by) s → s.to ≡ to → total hop (ss ++ s ∷ []) ≡ l → after hop k s ≡ l
@@ -85,7 +85,7 @@ least-back hop roads from to by l k ss s to_least by_least w c leads is =
         let costs : l.cost ≡ k.cost + s.cost = omega arith in
         label-ext (after hop k s) l (omega arith) (omega (arith, p.1 same, q.1 costs))
 
--- how a least walk goes on backwards
+-- a least walk followed backwards
 pub record GoesBack (roads : Roads) (from to : ℕ) (l : Label) : Type 0 where
   pub by : ℕ
   pub step : Step
@@ -94,7 +94,7 @@ pub record GoesBack (roads : Roads) (from to : ℕ) (l : Label) : Type 0 where
   pub least : IsLeast 1 roads from by label
   pub fewer : label.exits + 1 ≡ l.exits
 
--- a least walk to another room ends with such a step; with no exit it is the start
+-- a least walk to another room ends with such a step; a walk without exits is at the start
 pub route-goes-on : (roads : Roads) (from : ℕ) → ((room : ℕ) → (o : Option Label) × Least 1 roads from room o)
     → (to : ℕ) (l : Label) → IsLeast 1 roads from to l → (from ≡ to) ⊎ GoesBack roads from to l
 route-goes-on roads from known to l least = go least.walked.0 least.walked.1 least.walked.2
@@ -134,7 +134,7 @@ least_is_one hop roads from to (Some a) (Some b) p q =
     ap Some (at_most-both a b (subst P q.walked.2 (p.least q.walked.0 q.walked.1))
     (subst Q p.walked.2 (q.least p.walked.0 p.walked.1)))
 
--- what is labelled with the least label has it
+-- a room labelled with the least label has that label
 pub least-one : (hop : ℕ) (roads : Roads) (from to : ℕ) (o : Option Label) (l : Label) → Least hop roads from to o
     → IsLeast hop roads from to l → o ≡ Some l
 least-one hop roads from to o l p q = least_is_one hop roads from to o (Some l) p q

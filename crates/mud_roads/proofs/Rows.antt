@@ -1,11 +1,11 @@
--- Rows of steps, kept one after the other.
+-- Rows of steps, concatenated.
 use Rattle.std.proofs.Common.{◌≡◌, ℕ, zero, suc, ◌+◌, ◌-◌, ◌<◌, ◌≤◌, List, [], ◌∷◌, ◌++◌, length, get_or, take, drop}
 use Rattle.std.proofs.Common.{refl, sym, ◌∙◌, ap, subst, arith}
 use Rattle.std.proofs.lemmas.List.{length-append, length-drop, drop-drop, take-append-le, drop-append-le, take_all}
 use Rattle.mud_roads.specs.declared.label.Step.{Step}
 use Rattle.mud_roads.specs.inner.Tables.{rows, Fit}
 
--- where row k begins
+-- the index at which row k begins
 abbrev pub begin : ℕ → List ℕ → ℕ → ℕ
 begin from ends k = get_or (from ∷ ends) k 0
 
@@ -24,7 +24,7 @@ row-within from (end ∷ ends) steps fit (suc k) h =
     let size = length-drop (end - from) steps in
     (omega (arith, fit.0, more.0), more.1, omega (arith, fit.0, fit.1, more.2, size))
 
--- and is this part of them
+-- and is this slice of them
 pub row-part : (from : ℕ) (ends : List ℕ) (steps : List Step) → Fit from ends steps → (k : ℕ) → k < length ends
     → get_or (rows from ends steps) k []
     ≡ take (get_or ends k 0 - begin from ends k) (drop (begin from ends k - from) steps)
@@ -39,7 +39,7 @@ row-part from (end ∷ ends) steps fit (suc k) h =
     ∙ ap (take (get_or ends k 0 - begin end ends k))
     (drop-drop (begin end ends k - end) (end - from) steps ∙ ap (λ (n : ℕ). drop n steps) e)
 
--- with the steps of a further row at the end, and where it ends
+-- the rows with the steps of one more row appended
 pub rows-more : (from : ℕ) (ends : List ℕ) (steps row : List Step) (end : ℕ) → Fit from ends steps
     → end ≡ from + length steps + length row
     → rows from (ends ++ end ∷ []) (steps ++ row) ≡ rows from ends steps ++ row ∷ []
@@ -59,7 +59,7 @@ rows-more from (first ∷ ends) steps row end fit is =
     ∙ ap (λ (rs : List (List Step)). take (first - from) steps ∷ rs)
     (rows-more first ends (drop (first - from) steps) row end fit.2 (omega (arith, is, size, fit.0, fit.1)))
 
--- they fit still
+-- they still fit
 pub fit-more : (from : ℕ) (ends : List ℕ) (steps row : List Step) (end : ℕ) → Fit from ends steps
     → end ≡ from + length steps + length row
     → Fit from (ends ++ end ∷ []) (steps ++ row)

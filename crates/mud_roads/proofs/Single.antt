@@ -1,4 +1,4 @@
--- A room has one canonical route, and a party one meeting room.
+-- A room has one canonical route, and a party has one meeting room.
 use Rattle.std.proofs.Common.{◌≡◌, ℕ, ◌+◌, ◌<◌, ◌≤◌, ◌⊎◌, inl, inr, List, [], ◌∷◌, Some, refl, sym, ◌∙◌, ap, subst}
 use Rattle.std.proofs.Common.{arith}
 use Rattle.std.specs.Prelude.{Contains, reverse}
@@ -15,7 +15,7 @@ use Rattle.mud_roads.proofs.Roads.{road-at}
 some-passage : (a b : Passage) → Some a ≡ Some b → a ≡ b
 some-passage a b e = cc
 
--- steps of one exit are one step, out of one room
+-- steps of one exit are equal, and leave one room
 pub record AreOne (by by' : ℕ) (s s' : Step) : Type 0 where
   pub room : by ≡ by'
   pub step : s ≡ s'

@@ -1,4 +1,4 @@
--- A player who walks keeps his roads, so his walk goes on as it began.
+-- A walking player keeps its roads, so the rest of a walk stays open.
 use Rattle.std.proofs.Common.{◌≡◌, ◌≢◌, ℕ, zero, suc, Bool, true, false, ◌&&◌, ◌||◌, cond, [], ◌∷◌, Option, Some, None}
 use Rattle.std.proofs.Common.{refl, sym, ◌∙◌, ap, subst, ⊎_elim}
 use Rattle.std.specs.Prelude.{nat_eq, is_some, is_none, IsTrue, List}
@@ -33,7 +33,7 @@ use Rattle.mud_roads.specs.Passable.{open_step}
 use Rattle.mud_roads.specs.Laws.{IsRoad, IsWalked}
 use Rattle.mud_roads.proofs.Roads.{road-at}
 
--- ---- object p gets another place
+-- ---- object p moves
 module _ (w : State) (p y : ℕ) (r : Record) (at : record_at w p ≡ Some r) where
   abbrev r' : Record
   r' = record r { kind = kind_at y r.kind }
@@ -47,7 +47,7 @@ module _ (w : State) (p y : ℕ) (r : Record) (at : record_at w p ≡ Some r) wh
   there : (n : ℕ) → n ≢ p → record_at w' n ≡ record_at w n
   there n apart = lookup-set_value_other p n apart r' w.objects
 
-  -- what is asked of a record, but its place, stays as it was
+  -- the facts about a record, except its place, do not change
   kept : {X : Type 0} (f : Option Record → X) → f (Some r') ≡ f (Some r) → (n : ℕ)
       → f (record_at w' n) ≡ f (record_at w n)
   kept f same n =
@@ -68,7 +68,7 @@ module _ (w : State) (p y : ℕ) (r : Record) (at : record_at w p ≡ Some r) wh
   pub kept-player : is_player w' p ≡ is_player w p
   kept-player = kept (λ v. option_map_or (λ r. is_player_kind r.kind) v false) (same_player y r.kind) p
 
-  -- following places to p does not ask where p is
+  -- following places to p does not depend on the place of p
   kept_comes : (n o : ℕ) → comes_to w' n o p ≡ comes_to w n o p
   kept_comes zero o = refl
   kept_comes (suc n) o =
@@ -115,7 +115,7 @@ module _ (w : State) (p y : ℕ) (r : Record) (at : record_at w p ≡ Some r) wh
       ∙ ap (λ v. cond (passable w p n)
       (option_map (λ a. record { exit = n; to = a.destination; cost = a.cost }) v) None) (kept_passage n)
 
-  -- the roads of the one who moves stay as they were
+  -- the roads of the moved player do not change
   pub kept-roads : roads_of w' p ≡ roads_of w p
   unfolding roads_of
   kept-roads =
@@ -123,7 +123,7 @@ module _ (w : State) (p y : ℕ) (r : Record) (at : record_at w p ≡ Some r) wh
       λ i room. (ap (filter_map (open_step w' p)) (kept_leaving room)
       ∙ ap (λ (f : ℕ → Option Step). filter_map f (leaving_of w room)) step) i
 
-  -- and he stands where he went
+  -- and the player is in the new place
   pub placed-anew : is_player_kind r.kind ≡ true → place_of w' p ≡ Some y
   placed-anew player = ap (option_and_then (λ r. kind_place r.kind)) here ∙ new_place r.kind player
     where
@@ -153,7 +153,7 @@ passage-exit w n a is =
     of_kind (Thing q) e = absurd (let bad : None ≡ Some a = e in cc)
     of_kind (Player q) e = absurd (let bad : None ≡ Some a = e in cc)
 
--- a player's change by an exit of his roads is legal
+-- a player's change by an exit of its roads is legal
 module _ (w : State) (p from : ℕ) (s : Step) (player : IsTrue (is_player w p)) (place : place_of w p ≡ Some from)
     (road : IsRoad w p from s) where
   abbrev ends : Passage

@@ -1,4 +1,4 @@
--- Laws of the definitions: what they say together.
+-- Laws of the definitions.
 use Rattle.std.specs.Prelude.{◌≡◌, ℕ, List, [], ◌∷◌, Option, Some, None, IsTrue}
 use Rattle.mud_world.specs.declared.change.Deed.TheVariants.{Walk as WalkDeed}
 use Rattle.mud_world.specs.State.{State, place_of, passage_of}
@@ -11,17 +11,17 @@ use Rattle.mud_roads.specs.Walks.{Gathers}
 use Rattle.mud_roads.specs.Labels.{AreValid}
 use Rattle.mud_roads.specs.Passable.{passable, roads_of}
 
--- one at most is so
+-- at most one element satisfies P
 abbrev pub IsOne : {A : Type 0} → (A → Type 0) → Type 0
 IsOne {A} IsSo = (a b : A) → IsSo a → IsSo b → a ≡ b
 
--- a room with a least label has one whatever an exit counts as, at the same cost
+-- a room with a least label has one whatever an exit counts, at the same cost
 abbrev pub LeastIsAlike : Type 0
 LeastIsAlike =
     (hop hop' : ℕ) (roads : Roads) (from to : ℕ) (l : Label) → IsLeast hop roads from to l
     → (l' : Label) × IsLeast hop' roads from to l' × (l'.cost ≡ l.cost)
 
--- with valid labels a walk whose label is its end's is a least one, and no walk leads where there is no label
+-- with valid labels, a walk whose label is that of its end is a least walk, and no walk leads to a room without a label
 abbrev pub ValidIsLeast : Type 0
 ValidIsLeast =
     (hop : ℕ) (roads : Roads) (from : ℕ) (labels : ℕ → Option Label) → AreValid hop roads from labels
@@ -35,13 +35,13 @@ LeastIsValid =
     (hop : ℕ) (roads : Roads) (from : ℕ) (labels : ℕ → Option Label)
     → ((room : ℕ) → Least hop roads from room (labels room)) → AreValid hop roads from labels
 
--- the step is that of an exit which leaves the room and is open to p
+-- the step is that of an exit that leaves the room and is open to p
 abbrev pub IsRoad : State → ℕ → ℕ → Step → Type 0
 IsRoad w p room s =
     (passage_of w s.exit ≡ Some (record { source = room; destination = s.to; cost = s.cost }))
     × IsTrue (passable w p s.exit)
 
--- p's walks through these exits, one after the other, are legal changes that lead to a room
+-- p's walks through these exits are legal changes, one after another, that lead to a room
 abbrev pub IsWalked : State → ℕ → List Step → ℕ → Type 0
 IsWalked w p [] to = place_of w p ≡ Some to
 IsWalked w p (s ∷ ss) to =
@@ -58,7 +58,7 @@ MeetingIsOne =
     (hop : ℕ) (party : List Goer) (r c r' c' : ℕ) → IsMeeting (HasLeast hop) party r c
     → IsMeeting (HasLeast hop) party r' c' → (r ≡ r') × (c ≡ c')
 
--- the meeting room and its cost are the same whatever an exit counts as, and so is that there is none
+-- the meeting room and its cost do not depend on what an exit counts, and neither does that there is none
 abbrev pub MeetingIsAlike : Type 0
 MeetingIsAlike =
     (hop hop' : ℕ) (party : List Goer)

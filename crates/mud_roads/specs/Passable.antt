@@ -1,4 +1,4 @@
--- What is open to a player of a world.
+-- The exits that are open to a player of a world.
 use Rattle.std.specs.Prelude.{◌≡◌, refl, ℕ, Bool, false, ◌&&◌, List, [], Some, IsTrue, slice_index_or}
 use Rattle.std.specs.Prelude.{if◌then◌else◌, Option, None}
 use Rattle.std.specs.Option.{option_map, option_map_or}
@@ -10,49 +10,49 @@ use Rattle.mud_roads.specs.declared.label.Step.{Step}
 use Rattle.mud_roads.specs.contracts.label.Step as step
 use Rattle.mud_roads.specs.Walks.{Roads}
 
--- x is an exit, and x and the room that it leads to are unlocked for p
+-- x is an exit, and x and its destination are unlocked for p
 abbrev pub passable : State → ℕ → ℕ → Bool
 passable w p x = option_map_or (λ a. unlocked w p x && unlocked w p a.destination) (passage_of w x) false
 
--- the step that exit x makes, where it has these ends
+-- the step of exit x, given its ends and cost
 abbrev pub step_by : ℕ → Passage → Step
 step_by x a = record { exit = x; to = a.destination; cost = a.cost }
 
--- the step that exit x makes, where it is open to p
+-- the step of exit x, if it is open to p
 abbrev pub open_step : State → ℕ → ℕ → Option Step
 open_step w p x = if passable w p x then option_map (step_by x) (passage_of w x) else None
 
--- p's roads. A reader need not look into this: `laws::roads` says which steps they have, and in which order
+-- p's roads. A reader need not look into this: the law `laws::roads` states their steps and the order
 unfoldable pub roads_of : State → ℕ → Roads
 roads_of w p room = filter_map (open_step w p) (leaving_of w room)
 
--- what a traveller knows: who he is, where he stands, what is unlocked for him, and the open steps of each room
+-- the knowledge of a traveller: the player, its place, the objects unlocked for it, and the open steps of each room
 pub record Knowledge : Type 0 where
   pub player : ℕ
   pub place : ℕ
   marks : List Bool
   rows : List (List Step)
 
--- what is in memory, by number: whether each object is unlocked, and the open steps of each room
+-- the data in memory, by number: whether each object is unlocked, and the open steps of each room
 abbrev pub knowledge_of : ℕ → ℕ → List Bool → List (List Step) → Knowledge
 knowledge_of player place marks rows = record { player = player; place = place; marks = marks; rows = rows }
 
--- it is stored as the tuple of its fields
+-- the record encoded as the tuple of its fields
 abbrev pub knowledge_code : Coded Knowledge
 knowledge_code =
     code_by (ℕ × (ℕ × (List Bool × List (List Step))))
     (coded× coded_ℕ (coded× coded_ℕ (coded× (coded_list coded_bool) (coded_list (coded_list step.the_row.coded)))))
     (λ t. (t.player, (t.place, (t.marks, t.rows)))) (λ p. knowledge_of p.0 p.1.0 p.1.1.0 p.1.1.1) (λ _. refl)
 
--- whether he knows the object to be unlocked for him
+-- true if the traveller knows that the object is unlocked
 abbrev pub knows_unlocked : Knowledge → ℕ → Bool
 knows_unlocked t n = slice_index_or t.marks n false
 
--- the roads that he knows
+-- the roads that the traveller knows
 abbrev pub known_roads : Knowledge → Roads
 known_roads t room = slice_index_or t.rows room []
 
--- he is a player of this world, and what he knows is so in it
+-- the traveller is a player of this world, and its knowledge is true there
 pub record IsTraveller (w : State) (t : Knowledge) : Type 0 where
   pub player : IsTrue (is_player w t.player)
   pub place : place_of w t.player ≡ Some t.place

@@ -1,5 +1,5 @@
--- Walks, least labels, routes and meetings, over any roads. Each exit of a walk counts as `hop`: 1 where the number of
--- exits matters, 0 where only costs do.
+-- Walks, least labels, routes and meetings, over any roads. Each exit of a walk counts `hop`: 1 if the number of exits
+-- matters, 0 if only costs do.
 use Rattle.std.specs.Prelude.{◌≡◌, ℕ, ◌+◌, ◌<◌, ◌≤◌, ◌⊎◌, List, [], ◌∷◌, sum_by, map, reverse, Contains, All, Any}
 use Rattle.std.specs.Prelude.{Option, None, Some}
 use Rattle.mud_roads.specs.declared.label.Label.{Label}
@@ -9,7 +9,7 @@ use Rattle.mud_roads.specs.declared.label.Step.{Step}
 abbrev pub Roads : Type 0
 Roads = ℕ → List Step
 
--- each step is one of the room where the last one led; the empty walk leads nowhere else
+-- each step is one of the room where the last one led; the empty walk leads only to its start
 abbrev pub Walk : Roads → ℕ → List Step → ℕ → Type 0
 Walk roads from [] to = from ≡ to
 Walk roads from (s ∷ ss) to = Contains (roads from) s × Walk roads s.to ss to
@@ -18,19 +18,19 @@ Walk roads from (s ∷ ss) to = Contains (roads from) s × Walk roads s.to ss to
 abbrev pub exits_of : List Step → List ℕ
 exits_of ss = map (λ s. s.exit) ss
 
--- what a walk costs, and how many exits it has
+-- the cost of a walk, and the number of its exits
 abbrev pub total : ℕ → List Step → Label
 total hop ss = record { cost = sum_by (λ s. s.cost) ss; exits = sum_by (λ s. hop) ss }
 
--- the label one step on
+-- the label after one more step
 abbrev pub after : ℕ → Label → Step → Label
 after hop l s = record { cost = l.cost + s.cost; exits = l.exits + hop }
 
--- a lesser cost, or the same and no more exits
+-- a smaller cost, or an equal cost and no more exits
 abbrev pub AtMost : Label → Label → Type 0
 AtMost a b = (a.cost ≤ b.cost) × (a.cost ≡ b.cost → a.exits ≤ b.exits)
 
--- some walk has this label, and no walk has a lesser one
+-- some walk has this label, and no walk has a smaller one
 pub record IsLeast (hop : ℕ) (roads : Roads) (from to : ℕ) (l : Label) : Type 0 where
   pub walked : (ss : List Step) × Walk roads from ss to × (total hop ss ≡ l)
   pub least : (ss : List Step) → Walk roads from ss to → AtMost l (total hop ss)
@@ -39,7 +39,7 @@ pub record IsLeast (hop : ℕ) (roads : Roads) (from to : ℕ) (l : Label) : Typ
 abbrev pub NoWalk : Roads → ℕ → ℕ → Type 0
 NoWalk roads from to = (ss : List Step) → Walk roads from ss to → ⊥
 
--- the least label, or none where there is no walk
+-- the least label, or None if there is no walk
 abbrev pub Least : ℕ → Roads → ℕ → ℕ → Option Label → Type 0
 Least hop roads from to None = NoWalk roads from to
 Least hop roads from to (Some l) = IsLeast hop roads from to l
@@ -58,15 +58,15 @@ RouteBack hop roads from to (s ∷ ss) =
     × ((by' : ℕ) (s' : Step) → EndsLeast hop roads from to by' s' → s.exit ≤ s'.exit)
     × RouteBack hop roads from by ss
 
--- the canonical route: of the least walks the one that is built so from the target backwards
+-- the canonical route: the least walk that is built backwards from the target in this way
 abbrev pub IsRoute : ℕ → Roads → ℕ → ℕ → List Step → Type 0
 IsRoute hop roads from to ss = RouteBack hop roads from to (reverse ss)
 
--- one who goes: his roads, and where he stands
+-- a traveller: its roads, and its place
 abbrev pub Goer : Type 0
 Goer = Roads × ℕ
 
--- his least label of a room, or that he has none
+-- the traveller's least label of a room, or None if it has none
 abbrev pub HasLeast : ℕ → Goer → ℕ → Option Label → Type 0
 HasLeast hop p room l = Least hop p.0 p.1 room l
 
@@ -75,7 +75,7 @@ pub record Gathers {A : Type 0} (Has : A → ℕ → Option Label → Type 0) (p
   pub all : All (λ p. (l : Label) × Has p room (Some l) × (l.cost ≤ cost)) party
   pub one : Any (λ p. (l : Label) × Has p room (Some l) × (l.cost ≡ cost)) party
 
--- of the rooms of which each has a label, the one of least greatest cost, then of lowest number
+-- among the rooms where each has a label, the one with the least greatest cost, then with the lowest number
 pub record IsMeeting {A : Type 0} (Has : A → ℕ → Option Label → Type 0) (party : List A) (room cost : ℕ) : Type 0 where
   pub gathers : Gathers Has party room cost
   pub best : (r c : ℕ) → Gathers Has party r c → (cost < c) ⊎ ((cost ≡ c) × (room ≤ r))

@@ -1,4 +1,4 @@
-//! What is unlocked for a player.
+//! The objects that are unlocked for a player.
 
 ghost use Rattle.std.specs.Prelude.{◌≡◌, ℕ, [], ◌++◌, IfOk, OnOk, slice_index_or, false};
 ghost use Rattle.mud_roads.specs.Passable.{passable, open_step, roads_of};
@@ -9,14 +9,14 @@ use crate::table::Table;
 use mud_world::World;
 use std::alloc::{AllocError, Global};
 
-// A player, and whether each object is unlocked for him, by number.
+// A player, and for each number whether the object is unlocked for the player.
 #[derive(Drop)]
 pub(crate) struct Access {
     pub(crate) player: u32,
     marks: Vec<bool>,
 }
 
-// Whether each object is unlocked for the player, by number.
+// Returns for each number whether the object is unlocked for the player.
 fn unlocked_for(alloc: Global, world: &World, player: u32) -> Result<Vec<bool>, AllocError>
     ensures { IfOk result (λ marks. Knows world.now player marks.items) }
 {
@@ -25,7 +25,7 @@ fn unlocked_for(alloc: Global, world: &World, player: u32) -> Result<Vec<bool>, 
 }
 
 impl Access {
-    // What is unlocked for the player.
+    // Computes the objects that are unlocked for the player.
     pub(crate) fn of(alloc: Global, world: &World, player: u32) -> Result<Access, AllocError>
         ensures knows { IfOk result (λ a. Knows world.now player a.marks.items) }
         ensures player { IfOk result (λ a. a.player ≡ player) }
@@ -34,7 +34,7 @@ impl Access {
         Ok(Access { player, marks })
     }
 
-    // Whether the object is unlocked for him.
+    // Returns whether the object is unlocked for the player.
     fn is_unlocked(&self, number: u32) -> bool
         ensures { result ≡ slice_index_or self.now.marks.items number false }
     {
@@ -44,7 +44,7 @@ impl Access {
         }
     }
 
-    // The step that an exit makes, where it is open to him.
+    // Returns the step of an exit, if the exit is open to the player.
     pub(crate) fn step_by(&self, world: &World, exit: u32) -> Option<Step>
         requires { Knows world.now self.now.player self.now.marks.items }
         ensures { result ≡ open_step world.now self.now.player exit }
@@ -61,7 +61,7 @@ impl Access {
         }
     }
 
-    // Whether the number is an exit's that is open to him.
+    // Returns whether the number is an exit that is open to the player.
     pub(crate) fn passes(&self, world: &World, exit: u32) -> bool
         requires { Knows world.now self.now.player self.now.marks.items }
         ensures { result ≡ passable world.now self.now.player exit }
@@ -72,7 +72,7 @@ impl Access {
         }
     }
 
-    // Adds the open exits that leave a room, by rising number.
+    // Appends the open exits that leave a room, sorted by number.
     #[tactic(auto, unfolding(crate::specs::Passable::roads_of))]
     pub(crate) fn add_steps(
         &self,
@@ -91,7 +91,7 @@ impl Access {
         Ok(())
     }
 
-    // His roads: for each number the open exits that leave the room.
+    // Returns the player's roads: for each number the open exits that leave the room.
     pub(crate) fn roads(&self, alloc: Global, world: &World) -> Result<Table, AllocError>
         requires { Knows world.now self.now.player self.now.marks.items }
         ensures { IfOk result (λ t. (room : ℕ) → slice_index_or t room [] ≡ roads_of world.now self.now.player room) }

@@ -1,17 +1,15 @@
-//! Who may go where: travellers, the roads that are open to them, and what least walks, routes
-//! and meetings are.
+//! Travellers, the roads that are open to them, and the definitions of least walks, routes and meetings.
 //!
-//! | Call | Answer |
+//! | Call | Result |
 //! |---|---|
-//! | [`Traveller::of`] | a player of a world, with all that is unlocked for him |
-//! | [`Traveller::passes`] | whether an exit is open to him |
-//! | [`Traveller::step_by`] | the step that an exit makes, where it is open to him |
-//! | [`Traveller::leave`] | the open exits of a room, by rising number |
-//! | [`Traveller::steps_from`] | the same, as he knows them; it takes no memory |
+//! | [`Traveller::of`] | a player of a world, with everything that is unlocked for the player |
+//! | [`Traveller::passes`] | whether an exit is open to the traveller |
+//! | [`Traveller::step_by`] | the step of an exit, if it is open to the traveller |
+//! | [`Traveller::leave`] | the open exits of a room, sorted by number |
+//! | [`Traveller::steps_from`] | the same, as computed before; it does not allocate |
 //!
-//! The definitions of walks stand here too (specs/Walks.antt): they know nothing of labels, queues
-//! or searches, so that the guide and the checker of its answers speak of the same thing. The laws
-//! of the definitions are the contracts of [`laws`]; docs/ROADS.md tells the rules in plain words.
+//! specs/Walks.antt defines walks without labels, queues or searches, so the guide and the checker of its answers share
+//! one meaning. The contracts of [`laws`] are the laws of the definitions. docs/ROADS.md has the rules in plain words.
 //!
 //! ```text
 //! let traveller = Traveller::of(alloc, &world, 1)?;

@@ -6,12 +6,12 @@ ghost use Rattle.mud_roads.specs.inner.Tables.{rows, Fit};
 use crate::Step;
 use std::marker::Model;
 
-// A row of steps for each room, by rising number. A contract sees the rows.
+// A row of steps for each room, sorted by number. A contract sees the rows.
 #[derive(Drop)]
 pub(crate) struct Table {
-    // the steps of all rows, one row after the other
+    // the steps of all rows, concatenated
     steps: Vec<Step>,
-    // where each row ends among the steps
+    // the index among the steps at which each row ends
     ends: Vec<usize>,
 }
 
@@ -28,7 +28,7 @@ impl Model for Table {
 }
 
 impl Table {
-    // The rows that end at these places of the steps.
+    // Returns the rows that end at these indices of the steps.
     pub(crate) fn of(steps: Vec<Step>, ends: Vec<usize>) -> Table
         requires { Fit 0 ends.items steps.items }
         ensures { result ≡ rows 0 ends.items steps.items }
@@ -36,7 +36,7 @@ impl Table {
         Table { steps, ends }
     }
 
-    // The row of a number; there is none past the last.
+    // Returns the row of a number, or the empty row past the last one.
     pub(crate) fn row(&self, number: u32) -> &[Step]
         ensures { result.now ≡ slice_index_or self.now number [] }
     {
@@ -51,7 +51,7 @@ impl Table {
     }
 }
 
-// Where a row begins: where the one before it ends.
+// Returns the index at which a row begins: the end of the row before it.
 fn begin_of(ends: &[usize], at: usize) -> usize
     requires { at < length ends.now }
     ensures { result ≡ slice_index_or (0 ∷ ends.now) at 0 }
@@ -59,7 +59,7 @@ fn begin_of(ends: &[usize], at: usize) -> usize
     if at == 0 { 0 } else { ends[at - 1] }
 }
 
-// The steps from one place to another.
+// Returns the steps from one index to another.
 fn part(steps: &[Step], begin: usize, end: usize) -> &[Step]
     requires rising { begin ≤ end }
     requires within { end ≤ length steps.now }

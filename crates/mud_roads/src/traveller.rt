@@ -1,4 +1,4 @@
-//! A player of a world, and what is open to him.
+//! Travellers.
 
 ghost use Rattle.std.specs.Prelude.{◌≡◌, IfOk, IsTrue};
 ghost use Rattle.mud_world.specs.State.{is_player};
@@ -11,9 +11,8 @@ use mud_world::World;
 use std::alloc::{AllocError, Global};
 use std::marker::Model;
 
-/// A player of a world, with where he stands and all that is open to him there. He is of the world that he was made
-/// from and does not follow later changes. Each key of the world is judged once, and each exit looked at once, when the
-/// traveller is made.
+/// A player of a world, with its place and everything that is open to it. A traveller is a snapshot of one world and
+/// does not follow later changes. Making one evaluates each key of the world once, and each exit once.
 #[derive(Drop)]
 pub struct Traveller {
     access: Access,
@@ -32,7 +31,7 @@ impl Model for Traveller {
 }
 
 impl Traveller {
-    /// The traveller who is this player. The only error is out of memory.
+    /// Returns this player as a traveller. The only error is out of memory.
     pub fn of(alloc: Global, world: &World, player: u32) -> Result<Traveller, AllocError>
         requires { IsTrue (is_player world.now player) }
         ensures traveller { IfOk result (IsTraveller world.now) }
@@ -50,22 +49,22 @@ impl Traveller {
         }
     }
 
-    /// The number of the player.
+    /// Returns the number of the player.
     pub fn player(&self) -> u32
         ensures { result ≡ self.now.player }
     {
         self.access.player
     }
 
-    /// The room where he stands.
+    /// Returns the room where the traveller stands.
     pub fn place(&self) -> u32
         ensures { result ≡ self.now.place }
     {
         self.place
     }
 
-    /// Whether the number is an exit's that is open to him: the exit and the room that it leads to
-    /// are unlocked for him. Where he stands plays no part. He must be of this world.
+    /// Returns whether the number is an exit that is open to the traveller: the exit and its destination are unlocked
+    /// for the player. The place of the player does not matter. The traveller must be of this world.
     pub fn passes(&self, world: &World, exit: u32) -> bool
         requires { IsTraveller world.now self.now }
         ensures { result ≡ passable world.now self.now.player exit }
@@ -73,7 +72,7 @@ impl Traveller {
         self.access.passes(world, exit)
     }
 
-    /// The step that an exit makes, where it is open to him. He must be of this world.
+    /// Returns the step of an exit, if it is open to the traveller. The traveller must be of this world.
     pub fn step_by(&self, world: &World, exit: u32) -> Option<Step>
         requires { IsTraveller world.now self.now }
         ensures { result ≡ open_step world.now self.now.player exit }
@@ -81,7 +80,8 @@ impl Traveller {
         self.access.step_by(world, exit)
     }
 
-    /// The open exits that leave a room, by rising number. He must be of this world. The only error is out of memory.
+    /// Returns the open exits that leave a room, sorted by number. The traveller must be of this world. The only error
+    /// is out of memory.
     pub fn leave(&self, alloc: Global, world: &World, room: u32) -> Result<Vec<Step>, AllocError>
         requires { IsTraveller world.now self.now }
         ensures { IfOk result (λ steps. steps.items ≡ roads_of world.now self.now.player room) }
@@ -92,8 +92,8 @@ impl Traveller {
         Ok(steps)
     }
 
-    /// The open exits that leave a room, as he knew them when he was made. It takes no memory and does not look at the
-    /// world.
+    /// Returns the open exits that leave a room, as they were when the traveller was made. It neither allocates nor
+    /// looks at the world.
     pub fn steps_from(&self, room: u32) -> &[Step]
         ensures { result.now ≡ known_roads self.now room }
     {

@@ -14,7 +14,7 @@ use Rattle.mud_chron.specs.Entry.{Entry}
 use Rattle.mud_chron.specs.Replay.{changes_of, world_at, AreLegalFrom, AreLegal, IsFirstIllegal}
 use Rattle.mud_row.proofs.Worlds.{world_at-next}
 
--- a legal change is made
+-- a legal change is applied
 made : (w : State) (c : Change) → refusal w c ≡ None → step_or_same w c ≡ after w c
 made w c legal = ap (λ o. if is_none o then after w c else w) legal
 

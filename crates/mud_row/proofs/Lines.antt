@@ -1,4 +1,4 @@
--- The text of a history, one line further.
+-- The text of a history, line by line.
 use Rattle.std.proofs.Common.{◌≡◌, ◌≤◌, ℕ, ◌+◌, List, [], ◌∷◌, ◌++◌, length, take, drop, Some}
 use Rattle.std.proofs.Common.{slice_get, codes, refl, sym, ap, ◌∙◌, append_assoc, add-one, subst, arith}
 use Rattle.std.specs.Str.{IsUtf8, IsCharBoundary}
@@ -25,7 +25,7 @@ lines_after-next : (es : List Entry) (n : ℕ) (e : Entry) → slice_get es n �
     → lines_after n es ≡ (entry_line (n + 1) e ++ line_feed) ++ lines_after (n + 1) es
 lines_after-next es n e at = ap (entries_text (n + 1)) (drop-at es n e at)
 
--- the line of the entry after the first n was written
+-- the line of the entry after the first n is written
 pub line_written : (es : List Entry) (n : ℕ) (e : Entry) (old new : List ℕ) → entry_at es (n + 1) ≡ Some e
     → new ≡ old ++ entry_line (n + 1) e ++ line_feed → new ++ lines_after (n + 1) es ≡ old ++ lines_after n es
 line_written es n e old new at is =
@@ -35,11 +35,11 @@ line_written es n e old new at is =
     ap (λ (t : List ℕ). t ++ rest) (is ∙ append_assoc old line line_feed) ∙ append_assoc old (line ++ line_feed) rest
     ∙ ap (λ (t : List ℕ). old ++ t) (sym (lines_after-next es n e here))
 
--- a text to which a line was added begins with the text
+-- a text is a prefix of itself with a line appended
 pub line_longer : (old new line end : List ℕ) → new ≡ old ++ line ++ end → IsPrefix old new
 line_longer old new line end is = (line ++ end, sym (is ∙ append_assoc old line end))
 
--- after all lines the last one was written
+-- the last line is written after all others
 pub text_written : (es : List Entry) (n count : ℕ) (old mid new : List ℕ)
     → mid ++ lines_after n es ≡ (old ++ codes "mud history 2\n") ++ lines_after 0 es → length es ≤ n → count ≡ length es
     → new ≡ mid ++ end_line count ++ line_feed → new ≡ old ++ history_text Two es
@@ -54,16 +54,16 @@ text_written es n count old mid new so past same is =
     ∙ ap (λ (t : List ℕ). t ++ end) all
     ∙ append_assoc (old ++ head) lines end ∙ append_assoc old head (lines ++ end)
 
--- what begins with a text that begins with another begins with that
+-- being a prefix is transitive
 pub further : (old mid new : List ℕ) → IsPrefix old mid → IsPrefix mid new → IsPrefix old new
 further old mid new one two =
     (one.0 ++ two.0, sym (append_assoc old one.0 two.0) ∙ ap (λ (t : List ℕ). t ++ two.0) one.1 ∙ two.1)
 
--- a text is what it was, once it is cut there again
+-- truncating a text to its old length restores it
 pub cut_back : (old new : List ℕ) (n : ℕ) → IsPrefix old new → n ≡ length old → take n new ≡ old
 cut_back old new n longer at = ap (take n) (sym longer.1) ∙ take_at old longer.0 n (sym at)
 
--- a text can be cut where it ended before
+-- a text can be truncated to its old length
 pub cuts_there : (old new : List ℕ) (n : ℕ) → IsUtf8 old → IsUtf8 new → IsPrefix old new → n ≡ length old
     → IsCharBoundary new n
 cuts_there old new n was is longer at =

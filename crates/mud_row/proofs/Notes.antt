@@ -1,4 +1,4 @@
--- The notes of a pass, and what they are after one of them changed.
+-- The notes of a pass, before and after one of them changes.
 use Rattle.std.proofs.Common.{◌≡◌, ℕ, zero, suc, ◌+◌, ◌-◌, ◌≤◌, ◌<◌, List, [], ◌∷◌, ◌++◌, length, map, get_or, set}
 use Rattle.std.proofs.Common.{take, Option, Some, None, slice_get, Bor, ◌⊎◌, length-append, add-one, refl, sym, ap, ◌∙◌}
 use Rattle.std.proofs.Common.{subst, arith}
@@ -22,7 +22,7 @@ name_at (d ∷ cells) [] i c n e lt ic in' = absurd cc
 name_at (d ∷ cells) (m ∷ ns) zero c n e lt ic in' = cc
 name_at (d ∷ cells) (m ∷ ns) (suc i) c n e lt ic in' = name_at cells ns i c n (cc) (omega arith) ic in'
 
--- a row of notes has as many cells as the row
+-- there are as many notes as cells
 pub same_length : (cells : List (Global × ℕ)) (ns : List (Note Entry)) → names_of ns ≡ map cell_name cells
     → length ns ≡ length cells
 same_length [] [] e = refl
@@ -43,7 +43,7 @@ names-set [] i n m at same = refl
 names-set (o ∷ ns) zero n m at same = cc
 names-set (o ∷ ns) (suc i) n m at same = ap (λ r. o.cell ∷ r) (names-set ns i n m at same)
 
--- no more entries are known than there are notes
+-- at most as many entries are known as there are notes
 pub front_bound : (k : ℕ) (ns : List (Note Entry)) → length (known_front k ns) ≤ length ns
 front_bound zero ns = omega arith
 front_bound (suc k) [] = omega arith
@@ -53,13 +53,13 @@ front_bound (suc k) (n ∷ ns) = first_bound n.known (known_front k ns) (length 
     first_bound None es b h = omega arith
     first_bound (Some e) es b h = omega arith
 
--- where the first of suc k entries is counted, it is known
+-- if the first of suc k entries is counted, it is known
 pub all_more : (o : Option Entry) (es : List Entry) (k : ℕ) → length (entry_first o es) ≡ suc k
     → (x : Entry) × (o ≡ Some x) × (length es ≡ k)
 all_more None es k e = absurd (omega arith)
 all_more (Some x) es k e = (x, refl, omega arith)
 
--- where as many are known as are counted, the counted notes know their entries
+-- if as many are known as are counted, the counted notes know their entries
 pub known_at : (k : ℕ) (ns : List (Note Entry)) (i : ℕ) (n : Note Entry) → length (known_front k ns) ≡ k → i < k
     → n ≡ get_or ns i n → slice_get (known_front k ns) i ≡ n.known
 known_at zero ns i n e lt at = absurd (omega arith)
@@ -73,7 +73,7 @@ known_at (suc k) (m ∷ ns) (suc i) n e lt at =
     let P : Option Entry → Type 0 = λ o. slice_get (entry_first o (known_front k ns)) (suc i) ≡ n.known in
     subst P (sym f.1) (known_at k ns i n f.2 (omega arith) at)
 
--- a note past the count changes nothing that is known
+-- a note past the count does not change the known entries
 pub front-set_past : (k : ℕ) (ns : List (Note Entry)) (i : ℕ) (m : Note Entry) → k ≤ i
     → known_front k (set ns i m) ≡ known_front k ns
 front-set_past zero ns i m le = refl
@@ -81,7 +81,7 @@ front-set_past (suc k) [] i m le = refl
 front-set_past (suc k) (n ∷ ns) zero m le = absurd (omega arith)
 front-set_past (suc k) (n ∷ ns) (suc i) m le = ap (entry_first n.known) (front-set_past k ns i m (omega arith))
 
--- a note that knows the same leaves all that is known
+-- a note that knows the same entry does not change the known entries
 pub front-set_same : (k : ℕ) (ns : List (Note Entry)) (i : ℕ) (n m : Note Entry) → n ≡ get_or ns i n
     → m.known ≡ n.known → known_front k (set ns i m) ≡ known_front k ns
 front-set_same zero ns i n m at same = refl
@@ -102,7 +102,7 @@ front-set_next (suc k) (n ∷ ns) m e all lt is =
     λ o. entry_first o (known_front (suc k) (set ns k m)) ≡ entry_first o (known_front k ns) ++ e ∷ [] in
     subst P (sym f.1) (ap (λ r. f.0 ∷ r) (front-set_next k ns m e f.2 (omega arith) is))
 
--- two passes with the same row and the same entries are seen as one
+-- two passes with the same row and the same entries have equal models
 pub known_eq : (p q : Known) → p.row ≡ q.row → p.list ≡ q.list → p ≡ q
 known_eq p q r l = λ i. record { row = r i; list = l i }
 
@@ -117,20 +117,20 @@ names_more (d ∷ cells) [] (suc i) c n e lt ic is = absurd cc
 names_more (d ∷ cells) (m ∷ ns) (suc i) c n e lt ic is =
     let rest = names_more cells ns i c n (cc) (omega arith) ic is in cc
 
--- a list has an entry at each place within it
+-- a list has an entry at each place below its length
 pub stands_at : (es : List Entry) (i : ℕ) → i < length es → (x : Entry) × (slice_get es i ≡ Some x)
 stands_at [] i lt = absurd (omega arith)
 stands_at (e ∷ es) zero lt = (e, refl)
 stands_at (e ∷ es) (suc i) lt = stands_at es i (omega arith)
 
--- a cell that is read again, through a note that knows its entry, gives that entry
+-- reading a cell again, through a note that knows its entry, gives that entry
 pub read_again : (o k : Option Entry) (x : Entry) (r : Option (Bor Entry)) → o ≡ Some x
     → MatchOption r ((o ≡ None) × (k ≡ None)) (λ b. (k ≡ Some b.now) × Agrees o b.now) → (option_copied r ≡ o) × (k ≡ o)
 read_again None k x r e m = absurd (cc)
 read_again (Some y) k x None e m = absurd (cc (m.0))
 read_again (Some y) k x (Some b) e m = (ap (λ z. Some z) (sym m.1), m.0 ∙ ap (λ z. Some z) (sym m.1))
 
--- entry n, counted from 1, stands at n - 1
+-- entry n, counted from 1, is at index n - 1
 pub entry_at_place : (es : List Entry) (n : ℕ) → 0 < n → entry_at es n ≡ slice_get es (n - 1)
 entry_at_place es zero h = absurd (omega arith)
 entry_at_place es (suc n) h = ap (slice_get es) (omega arith)
@@ -144,7 +144,7 @@ take_agree (x ∷ xs) [] (suc i) e g lt = absurd (cc)
 take_agree (x ∷ xs) (y ∷ ys) zero e g lt = cc
 take_agree (x ∷ xs) (y ∷ ys) (suc i) e g lt = let rest = take_agree xs ys i (cc) g (omega arith) in cc
 
--- where one list is a first part of another
+-- one list is a prefix of the other
 pub prefix_of_take : (xs ys : List Entry) (i : ℕ) → take i xs ≡ take i ys → length xs ≤ i → IsPrefix xs ys
 prefix_of_take [] ys i e le = (ys, refl)
 prefix_of_take (x ∷ xs) ys zero e le = absurd (omega arith)
@@ -156,7 +156,7 @@ pub prefix_self : (xs : List Entry) → IsPrefix xs xs
 prefix_self [] = ([], refl)
 prefix_self (x ∷ xs) = (let r = prefix_self xs in r.0, ap (λ ys. x ∷ ys) (prefix_self xs).1)
 
--- a note put at place i makes two lists of notes agree one place further
+-- replacing the note at place i makes two lists of notes agree on one more place
 pub take-set_agree : (xs ys : List (Note Entry)) (i : ℕ) (n : Note Entry) → take i xs ≡ take i ys → i < length xs
     → i < length ys → n ≡ get_or ys i n → take (suc i) (set xs i n) ≡ take (suc i) ys
 take-set_agree [] ys i n e lx ly at = absurd (omega arith)
@@ -173,7 +173,7 @@ front-take (suc k) [] (y ∷ ys) e = absurd (cc)
 front-take (suc k) (x ∷ xs) [] e = absurd (cc)
 front-take (suc k) (x ∷ xs) (y ∷ ys) e = let rest = front-take k xs ys (cc) in let head : x ≡ y = cc in cc
 
--- the name at a place, in two rows of notes that have the same names
+-- the name at a place, in two lists of notes with equal names
 pub name_beside : (xs ys : List (Note Entry)) (i : ℕ) (x y : Note Entry) → names_of xs ≡ names_of ys
     → i < length xs → x ≡ get_or xs i x → y ≡ get_or ys i y → y.cell ≡ x.cell
 name_beside [] ys i x y e lt ix iy = absurd (omega arith)
@@ -181,13 +181,13 @@ name_beside (a ∷ xs) [] i x y e lt ix iy = absurd (cc)
 name_beside (a ∷ xs) (b ∷ ys) zero x y e lt ix iy = cc
 name_beside (a ∷ xs) (b ∷ ys) (suc i) x y e lt ix iy = name_beside xs ys i x y (cc) (omega arith) ix iy
 
--- two notes that know their entries know the same one
+-- two notes that know their entries know equal ones
 pub notes_agree : (o k : Option Entry) (x y : Entry) → o ≡ Some x → k ≡ Some y → IfSome k (Agrees o) → o ≡ k
 notes_agree None k x y eo ek a = absurd (cc)
 notes_agree (Some v) None x y eo ek a = absurd (cc)
 notes_agree (Some v) (Some w) x y eo ek a = cc
 
--- a note that is put back where it stood changes nothing
+-- replacing a note by itself changes nothing
 pub set_same : {X : Type 0} (xs : List X) (i : ℕ) (x y : X) → x ≡ get_or xs i x → y ≡ x → set xs i y ≡ xs
 set_same [] i x y at same = refl
 set_same (z ∷ xs) zero x y at same = cc
@@ -214,12 +214,12 @@ beside cells ns k p row view is self counted =
       known = omega (arith, ap (λ q. length q.list) view, counted.1);
     }
 
--- what a note past the count has learned changes nothing
+-- a note past the count may learn an entry without changing the known entries
 pub kept-past : (k : ℕ) (ns : List (Note Entry)) (n m : Note Entry) → n ≡ get_or ns k n → m.cell ≡ n.cell
     → known_of k (set ns k m) ≡ known_of k ns
 kept-past k ns n m at cell = known_eq _ _ (names-set ns k n m at cell) (front-set_past k ns k m (omega arith))
 
--- a note that knows the same entry as before changes nothing
+-- a note that knows the same entry as before does not change the known entries
 pub kept-same : (k : ℕ) (ns : List (Note Entry)) (i : ℕ) (n m : Note Entry) → n ≡ get_or ns i n → m.cell ≡ n.cell
     → m.known ≡ n.known → known_of k (set ns i m) ≡ known_of k ns
 kept-same k ns i n m at cell known = known_eq _ _ (names-set ns i n m at cell) (front-set_same k ns i n m at known)
@@ -229,7 +229,7 @@ pub counted-kept : (k : ℕ) (ns : List (Note Entry)) (i : ℕ) (m : Note Entry)
 counted-kept k ns i m counted same =
     (omega (arith, length-set ns i m, counted.0), ap (λ q. length q.list) same ∙ counted.1)
 
--- one more note is counted, which knows an entry
+-- one more note is counted, and it knows an entry
 pub front-more : (k : ℕ) (ns : List (Note Entry)) (m : Note Entry) (e : Entry) → AreCounted k ns
     → k < length ns → m.known ≡ Some e → known_front (k + 1) (set ns k m) ≡ known_front k ns ++ e ∷ []
 front-more k ns m e counted lt known = rw add-one (front-set_next k ns m e counted.1 lt known)
@@ -241,7 +241,7 @@ counted-more k ns m e counted lt known = (
   omega (arith, ap length (front-more k ns m e counted lt known), length-append (known_front k ns) (e ∷ []), counted.1),
 )
 
--- where an entry is found, its number is that of one
+-- if an entry is found, its number is within the known ones
 pub found_place : (r : Option (Bor Entry)) (x : Entry) (n known : ℕ) → option_copied r ≡ Some x → 1 ≤ n
     → n ≤ known → MatchOption r ((n ≡ 0) ⊎ (known < n)) (λ _. (1 ≤ n) × (n ≤ known))
 found_place None x n known is from to = absurd (cc)
@@ -251,7 +251,7 @@ take_front : (es fs : List Entry) → take (length es) (es ++ fs) ≡ es
 take_front [] fs = refl
 take_front (e ∷ es) fs = ap (λ w. e ∷ w) (take_front es fs)
 
--- where the entries that are left make up the whole, some first ones of all were added
+-- if the remaining entries complete the list, a prefix of all was added
 pub fills : (old new rest entries : List Entry) → length old ≤ length new → new ++ rest ≡ old ++ entries
     → Fills old entries new
 fills [] new rest entries le e = record {
@@ -265,7 +265,7 @@ fills (x ∷ old) (y ∷ new) rest entries le e =
     let head : y ≡ x = cc in
     record { count = f.count; few = f.few; is = ap (λ w. w ∷ new) head ∙ ap (λ w. x ∷ w) f.is }
 
--- what holds anyway holds after a fault
+-- a fact that always holds also holds after a fault
 pub any_err : {A E : Type 0} (r : Result A E) (P : Type 0) → P → OnErr r P
 any_err (Ok a) P p = tt
 any_err (Err e) P p = p

@@ -1,4 +1,4 @@
--- What is known of a row of cells, each of which takes one entry and keeps it.
+-- The knowledge of a log of write-once cells.
 use Rattle.std.specs.Prelude.{◌≡◌, ◌≤◌, ◌+◌, length, ℕ, zero, suc, List, ◌++◌, Option, None}
 use Rattle.std.specs.Prelude.{slice_get, take, drop}
 use Rattle.once_cell.specs.declared.race.note.Note.{Note}
@@ -7,22 +7,23 @@ use Rattle.mud_chron.specs.Entry.{Entry}
 use Rattle.mud_chron.specs.Text.{entries_text}
 use Rattle.mud_row.specs.inner.Known.{names_of, known_front}
 
--- a pass: the names of the cells of its row, in order, and the entries of the first cells, which it knows
+-- a pass: the names of the cells of its row, in order, and the entries of the known prefix
 pub record Known : Type 0 where
   pub row : List ℕ
   pub list : List Entry
 
--- a replica: what its pass knows, and how many of the known entries its world took in
+-- a replica: the knowledge of its pass, and the number of known entries that its world has applied
 pub record Standing : Type 0 where
   pub row : List ℕ
   pub list : List Entry
   pub at : ℕ
 
--- what a holder of notes knows. A reader need not look into this: contracts give each entry, and speak of a `Known`
+-- the knowledge of a holder of notes. A reader need not look into this: contracts give each entry, and speak of a
+-- `Known`
 abbrev pub known_of : ℕ → List (Note Entry) → Known
 known_of count notes = record { row = names_of notes; list = known_front count notes }
 
--- how notes stand in memory. A reader need not look into this: contracts speak only of a `Known`
+-- the layout of notes in memory. A reader need not look into this: contracts speak only of a `Known`
 abbrev pub AreCounted : ℕ → List (Note Entry) → Type 0
 AreCounted count notes = (length notes ≤ MOST_ENTRIES) × (length (known_front count notes) ≡ count)
 
@@ -31,7 +32,7 @@ abbrev pub entry_at : List Entry → ℕ → Option Entry
 entry_at es zero = None
 entry_at es (suc n) = slice_get es n
 
--- the list is longer by some first ones of the entries
+-- the list is extended by a prefix of the entries
 pub record Fills (old entries new : List Entry) : Type 0 where
   pub count : ℕ
   pub few : count ≤ length entries

@@ -1,29 +1,29 @@
-//! Why an entry was not published.
+//! The reasons why entries are not published.
 
 use std::alloc::AllocFailed;
 use thiserror::Error;
 
-/// Why an entry was not published. It comes back with the entry, and nothing changed.
+/// The reason why an entry was not published. The entry comes back with it, and nothing changed.
 #[derive(Clone, Copy, PartialEq, Eq, Debug, Drop, Error)]
 pub enum RowFault {
-    /// The pass knows every cell: the history is full.
+    /// The pass knows every cell: the log is full.
     #[error("the history is full")]
     HistoryFull,
-    /// The first cell that the pass does not know did not take the entry: another was there first.
+    /// The first cell that the pass does not know did not take the entry: another thread was first.
     #[error("another entry was there first")]
     Unpublished,
 }
 
-/// Why a row was not filled.
+/// The reason why a row was not filled.
 #[derive(Clone, Copy, PartialEq, Eq, Debug, Drop, Error)]
 pub enum FillFault {
-    /// Memory ran out.
+    /// An allocation failed.
     #[error("out of memory")]
     OutOfMemory,
-    /// The entries are more than the cells that the pass does not know.
+    /// There are more entries than cells that the pass does not know.
     #[error("the history is full")]
     HistoryFull,
-    /// A cell did not take its entry: another was there first.
+    /// A cell did not take its entry: another thread was first.
     #[error("another entry was there first")]
     Unpublished,
 }

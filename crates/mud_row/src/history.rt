@@ -1,4 +1,4 @@
-//! A history that nobody adds to any more.
+//! The history of a log that is no longer shared.
 
 ghost use Rattle.std.specs.Prelude.{◌≡◌, ◌≤◌, ◌<◌, ◌+◌, ◌++◌, length, IfOk, IfErr, OnOk, OnErr, string_bytes};
 ghost use Rattle.std.specs.List.{AllByRecursion};
@@ -18,7 +18,7 @@ use mud_world::World;
 use std::alloc::{AllocError, Global};
 use std::marker::Model;
 
-/// The entries of a history, in the cells where they were published: none is copied. A contract sees them in order.
+/// The entries of a history, in the cells where they were published. No entry is copied. A contract sees them in order.
 #[derive(Drop)]
 pub struct History {
     row: Row,
@@ -42,7 +42,7 @@ impl Model for History {
 }
 
 impl History {
-    /// The entries that the pass knows of its row.
+    /// Returns the entries of the row that the pass knows.
     pub fn new(row: Row, pass: Pass) -> History
         requires { pass.row ≡ row }
         ensures { result ≡ pass.list }
@@ -50,7 +50,7 @@ impl History {
         History { row, pass }
     }
 
-    /// How many entries there are, 0 to 65,536.
+    /// Returns the number of entries, 0 to 65,536.
     pub fn len(&self) -> u32
         ensures len { result ≡ length self.now }
         ensures limit { result ≤ MOST_ENTRIES }
@@ -58,8 +58,8 @@ impl History {
         self.pass.known()
     }
 
-    /// Appends the line of the entry after the first `n`, with its end. The history stays as it was. The only error is
-    /// out of memory, and then the text is as it was.
+    /// Appends the line of the entry after the first `n`, with its line end. The history is unchanged. The only error
+    /// is out of memory, and it leaves the text unchanged.
     pub fn write_line(&mut self, alloc: Global, n: u32, out: &mut String) -> Result<(), AllocError>
         requires { n < length self.old }
         ensures same { self.new ≡ self.old }
@@ -70,8 +70,8 @@ impl History {
         write_line(alloc, &self.row, &mut self.pass, n, out)
     }
 
-    /// Appends the text of the history in format 2. The history stays as it was. The only error is out of memory, and
-    /// then the text is as it was.
+    /// Appends the text of the history in format 2. The history is unchanged. The only error is out of memory, and it
+    /// leaves the text unchanged.
     pub fn write_text(&mut self, alloc: Global, out: &mut String) -> Result<(), AllocError>
         ensures same { self.new ≡ self.old }
         ensures ok { OnOk result (string_bytes out.new ≡ string_bytes out.old ++ history_text Two self.old) }
@@ -80,8 +80,8 @@ impl History {
         write_text(alloc, &self.row, &mut self.pass, out)
     }
 
-    /// The world that the entries lead to, as of `replay`: `BadChange` is the first whose change isn't legal where it
-    /// stands, and else the only error is out of memory. The history stays as it was.
+    /// Replays the entries, like `mud_chron::replay`: `BadChange` names the first entry whose change is illegal where
+    /// it occurs, and the only other error is out of memory. The history is unchanged.
     pub fn replay(&mut self, alloc: Global) -> Result<World, ChronFault>
         ensures same { self.new ≡ self.old }
         ensures each { OnOk result (AllByRecursion IsEntry self.old) }
@@ -93,7 +93,7 @@ impl History {
     }
 }
 
-// The world that the entries lead to which the pass knows.
+// Replays the entries that the pass knows.
 fn replay_known(alloc: Global, row: &Row, pass: &mut Pass) -> Result<World, ChronFault>
     requires { pass.old.row ≡ row.now }
     ensures same { pass.new ≡ pass.old }

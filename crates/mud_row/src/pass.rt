@@ -1,7 +1,7 @@
-//! What one holder knows of a row.
+//! A reader's cursor into a row: the prefix that it knows.
 //!
-//! What is known of a cell is read through a `&mut` today. So `again`, `agree` and `learn` take
-//! each pass that they read by `&mut`, and say that it stays as it was.
+//! Reading through a note takes a `&mut`. So `again`, `agree` and `learn` take each pass that they read by `&mut`, and
+//! promise that it is unchanged.
 
 ghost use Rattle.std.specs.Prelude.{◌≡◌, ◌⊎◌, ◌≤◌, length, take, IfOk};
 ghost use mathlib.Core.List.{IsPrefix};
@@ -13,8 +13,8 @@ use once_cell::race::Note;
 use std::alloc::{AllocError, Global};
 use std::marker::Model;
 
-/// How many of the first cells of a row its holder knows to be set; the row that made it gives
-/// their entries. A contract sees the names of the cells of that row, and the known entries.
+/// A cursor into a row: the number of cells at its beginning that are known to be set. The row that made the pass has
+/// their entries. A contract sees the names of the row's cells, and the known entries.
 #[derive(Drop)]
 pub struct Pass {
     pub(crate) notes: Vec<Note<Entry>>,
@@ -37,7 +37,7 @@ impl Model for Pass {
 }
 
 impl Pass {
-    /// How many entries are known, 0 to 65,536.
+    /// Returns the number of known entries, 0 to 65,536.
     pub fn known(&self) -> u32
         ensures known { result ≡ length self.now.list }
         ensures limit { result ≤ MOST_ENTRIES }
@@ -45,8 +45,8 @@ impl Pass {
         self.count
     }
 
-    /// A second pass that knows the same; this one stays as it was. All notes of the second are made here, so that no
-    /// later call asks for memory. The only error is out of memory.
+    /// Returns a second pass that knows the same prefix. It allocates all notes of the new pass, so that no later call
+    /// allocates. The pass is unchanged. The only error is out of memory.
     pub fn again(&mut self, alloc: Global) -> Result<Pass, AllocError>
         ensures same { self.new ≡ self.old }
         ensures copy { IfOk result (λ p. p ≡ self.old) }
@@ -58,8 +58,8 @@ impl Pass {
         })
     }
 
-    /// Of two passes of one row, what the one that knows less knows is the beginning of what the
-    /// other knows. Both stay as they were. It takes no memory.
+    /// Shows that, of two passes of one row, the shorter prefix is a prefix of the longer one. Both passes are
+    /// unchanged. It does not allocate.
     pub fn agree(&mut self, other: &mut Pass)
         requires { self.old.row ≡ other.old.row }
         ensures mine_same { self.new ≡ self.old }
@@ -77,7 +77,7 @@ impl Pass {
         );
     }
 
-    /// Takes over the longer of the prefixes that the two know. The other pass stays as it was. It takes no memory.
+    /// Advances to the longer of the two prefixes. The other pass is unchanged. It does not allocate.
     pub fn learn(&mut self, other: &mut Pass)
         requires { self.old.row ≡ other.old.row }
         ensures other_same { other.new ≡ other.old }
@@ -86,7 +86,7 @@ impl Pass {
         ensures mine { IsPrefix self.old.list self.new.list }
         ensures theirs { IsPrefix other.old.list self.new.list }
     {
-        // for the prover: what the one that knows less knows is the beginning of what the other knows
+        // for the prover: the shorter prefix is a prefix of the longer one
         self.agree(other);
         if self.count < other.count {
             take_over(&mut self.notes, &mut other.notes, other.count);
@@ -95,7 +95,7 @@ impl Pass {
     }
 }
 
-// A copy of each note.
+// Returns a copy of each note.
 fn copies(alloc: Global, notes: &mut Vec<Note<Entry>>) -> Result<Vec<Note<Entry>>, AllocError>
     ensures same { notes.new.items ≡ notes.old.items }
     ensures copy { IfOk result (λ v. v.items ≡ notes.old.items) }
@@ -107,7 +107,7 @@ fn copies(alloc: Global, notes: &mut Vec<Note<Entry>>) -> Result<Vec<Note<Entry>
     Ok(all)
 }
 
-// Shows that the first notes of both know the same. Notes take no bytes, so it costs no memory.
+// Shows that the first notes of both know equal entries. Notes have no bytes, so this costs no memory.
 fn compare(
     mine: &mut Vec<Note<Entry>>,
     mine_known: u32,
@@ -131,7 +131,7 @@ fn compare(
     }
 }
 
-// Copies the first notes of one row of notes over those of another.
+// Copies the first notes of one list over those of the other.
 fn take_over(mine: &mut Vec<Note<Entry>>, theirs: &mut Vec<Note<Entry>>, count: u32)
     requires row { names_of mine.old.items ≡ names_of theirs.old.items }
     requires within { count ≤ length theirs.old.items }

@@ -1,4 +1,4 @@
-//! A world that follows a row.
+//! Replicas: worlds that follow a row.
 
 ghost use Rattle.std.specs.Prelude.{◌≡◌, ◌++◌, ◌∷◌, [], ◌<◌, ◌≤◌, ◌+◌, ◌↔◌, ◌⊎◌, length, max, slice_get};
 ghost use Rattle.std.specs.Prelude.{IfOk, IfErr, OnErr, OnOk, IsErrAnd, MatchBool, MatchOption, string_bytes};
@@ -20,9 +20,9 @@ use mud_world::World;
 use std::alloc::{AllocError, Global};
 use std::marker::Model;
 
-/// A world that takes in the entries of a row one by one, from the opening on. A contract sees the
-/// names of the cells of the row, the known entries, and how many of these the world took in. An
-/// entry whose change is not legal where it stands changes nothing.
+/// A world that applies the entries of a row one by one, beginning with the initial world. A contract sees the names of
+/// the row's cells, the known entries, and the number of applied entries. An entry whose change is illegal where it
+/// occurs has no effect.
 #[derive(Drop)]
 pub struct Replica {
     world: World,
@@ -50,7 +50,7 @@ impl Model for Replica {
 impl Replica {
     ghost use Rattle.mud_row.specs.Known.{Standing};
 
-    /// A replica of this row that knows no cell: its world is the opening. The only error is out of memory.
+    /// Returns a replica of this row that knows no cell. Its world is the initial one. The only error is out of memory.
     pub fn new(alloc: Global, row: &Row) -> Result<Replica, AllocError>
         ensures { IfOk result (λ r. r ≡ record { row = row.now; list = []; at = 0 }) }
     {
@@ -61,14 +61,14 @@ impl Replica {
         })
     }
 
-    /// The world of the entries that it took in.
+    /// Returns the world after the applied entries.
     pub fn world(&self) -> &World
         ensures { result.now ≡ world_at self.now.list self.now.at }
     {
         &self.world
     }
 
-    /// How many of the known entries the world took in.
+    /// Returns the number of applied entries.
     pub fn at(&self) -> u32
         ensures at { result ≡ self.now.at }
         ensures within { result ≤ length self.now.list }
@@ -76,7 +76,7 @@ impl Replica {
         self.at
     }
 
-    /// How many entries are known, 0 to 65,536.
+    /// Returns the number of known entries, 0 to 65,536.
     pub fn known(&self) -> u32
         ensures known { result ≡ length self.now.list }
         ensures limit { result ≤ MOST_ENTRIES }
@@ -84,8 +84,8 @@ impl Replica {
         self.pass.known()
     }
 
-    /// Knows from then on each next cell that it finds set, up to the first that it does not. The
-    /// world stays as it was. It takes no memory.
+    /// Learns each next cell that is set, up to the first one that is not. The world is unchanged. It does not
+    /// allocate.
     pub fn extend(&mut self, row: &Row)
         requires { self.old.row ≡ row.now }
         ensures still { (self.new.row ≡ self.old.row) × (self.new.at ≡ self.old.at) }
@@ -95,7 +95,7 @@ impl Replica {
         self.extend_to(row, row.capacity());
     }
 
-    /// As `extend`, but it comes to know no entry after the `most`-th.
+    /// Learns cells like `extend`, but none after the `most`-th.
     pub fn extend_to(&mut self, row: &Row, most: u32)
         requires { self.old.row ≡ row.now }
         ensures still { (self.new.row ≡ self.old.row) × (self.new.at ≡ self.old.at) }
@@ -110,8 +110,8 @@ impl Replica {
         }
     }
 
-    /// The known entry after those that the world took in; `None` exactly where it took in all.
-    /// The replica stays as it was. It takes no memory.
+    /// Returns the first known entry that is not applied yet, and `None` exactly if all are applied. The replica is
+    /// unchanged. It does not allocate.
     pub fn peek<'a>(&mut self, row: &'a Row) -> Option<&'a Entry>
         requires { self.old.row ≡ row.now }
         ensures same { self.new ≡ self.old }
@@ -126,8 +126,8 @@ impl Replica {
         row.entry(&mut self.pass, self.at + 1)
     }
 
-    /// Takes the known entry after those that the world took in into the world, and answers whether there was one. The
-    /// only error is out of memory, and then the replica stays as it was.
+    /// Applies the first known entry that is not applied yet, and returns whether there was one. The only error is out
+    /// of memory, and it leaves the replica unchanged.
     pub fn step(&mut self, row: &Row) -> Result<bool, AllocError>
         requires { self.old.row ≡ row.now }
         ensures still { (self.new.row ≡ self.old.row) × (self.new.list ≡ self.old.list) }
@@ -147,8 +147,7 @@ impl Replica {
         }
     }
 
-    /// Takes all known entries into the world. The only error is out of memory, and then the replica stands at one of
-    /// the entries from where it stood on.
+    /// Applies all known entries. The only error is out of memory, and then the replica has applied a part of them.
     pub fn catch_up(&mut self, row: &Row) -> Result<(), AllocError>
         requires { self.old.row ≡ row.now }
         ensures still { (self.new.row ≡ self.old.row) × (self.new.list ≡ self.old.list) }
@@ -163,9 +162,8 @@ impl Replica {
         Ok(())
     }
 
-    /// Knows from then on each next cell that it finds set, as `extend`, and takes all known entries into the world, as
-    /// `catch_up`. The only error is out of memory, and then the replica stands at one of the entries from where it
-    /// stood on.
+    /// Learns each next cell that is set, like `extend`, and applies all known entries, like `catch_up`. The only error
+    /// is out of memory, and then the replica has applied a part of them.
     pub fn see(&mut self, row: &Row) -> Result<(), AllocError>
         requires { self.old.row ≡ row.now }
         ensures still { self.new.row ≡ self.old.row }
@@ -178,8 +176,7 @@ impl Replica {
         self.catch_up(row)
     }
 
-    /// Sets the first cell that is not known, as `Row::publish`. The world does not take the entry
-    /// in yet. It takes no memory.
+    /// Sets the first unknown cell, like `Row::publish`. The entry is not applied yet. It does not allocate.
     pub fn publish(&mut self, row: &Row, entry: Box<Entry>) -> Result<u32, (Box<Entry>, RowFault)>
         requires { self.old.row ≡ row.now }
         ensures still { (self.new.row ≡ self.old.row) × (self.new.at ≡ self.old.at) }
@@ -193,8 +190,8 @@ impl Replica {
         row.publish(&mut self.pass, entry)
     }
 
-    /// The known entry of this number, counted from 1; `None` exactly where it knows none of that
-    /// number. The replica stays as it was. It takes no memory.
+    /// Returns the known entry with this number, counted from 1, and `None` exactly if it does not know one. The
+    /// replica is unchanged. It does not allocate.
     pub fn entry<'a>(&mut self, row: &'a Row, n: u32) -> Option<&'a Entry>
         requires { self.old.row ≡ row.now }
         ensures same { self.new ≡ self.old }
@@ -205,8 +202,8 @@ impl Replica {
         row.entry(&mut self.pass, n)
     }
 
-    /// Appends the text of the history of the known entries, in format 2. The replica stays as it
-    /// was. The only error is out of memory, and then the text is as it was.
+    /// Appends the text of the history of the known entries, in format 2. The replica is unchanged. The only error is
+    /// out of memory, and it leaves the text unchanged.
     pub fn write_text(
         &mut self,
         alloc: Global,
@@ -219,13 +216,12 @@ impl Replica {
         ensures ok { OnOk result (string_bytes out.new ≡ string_bytes out.old ++ history_text Two self.old.list) }
         ensures err { OnErr result (string_bytes out.new ≡ string_bytes out.old) }
     {
-        // for the prover: `known` says that they are at most 65,536
+        // for the prover: `known` shows that there are at most 65,536
         let _known = self.pass.known();
         write_text(alloc, row, &mut self.pass, out)
     }
 
-    /// The pass learns what the replica knows, as `Pass::learn`. The replica stays as it was. It
-    /// takes no memory.
+    /// Advances the pass to the replica's prefix, like `Pass::learn`. The replica is unchanged. It does not allocate.
     pub fn tell(&mut self, pass: &mut Pass)
         requires { self.old.row ≡ pass.old.row }
         ensures same { self.new ≡ self.old }
@@ -237,8 +233,8 @@ impl Replica {
         pass.learn(&mut self.pass);
     }
 
-    /// Learns what the other replica knows, as `Pass::learn`. The world stays as it was, and so
-    /// does the other replica. It takes no memory.
+    /// Advances to the other replica's prefix, like `Pass::learn`. The world and the other replica are unchanged. It
+    /// does not allocate.
     pub fn learn(&mut self, other: &mut Replica)
         requires { self.old.row ≡ other.old.row }
         ensures other_same { other.new ≡ other.old }
@@ -251,8 +247,7 @@ impl Replica {
         self.pass.learn(&mut other.pass);
     }
 
-    /// Learns what the pass knows, as `Pass::learn`. The world stays as it was, and so does the pass.
-    /// It takes no memory.
+    /// Advances to the pass's prefix, like `Pass::learn`. The world and the pass are unchanged. It does not allocate.
     pub fn hear(&mut self, pass: &mut Pass)
         requires { self.old.row ≡ pass.old.row }
         ensures pass_same { pass.new ≡ pass.old }
@@ -265,7 +260,7 @@ impl Replica {
         self.pass.learn(pass);
     }
 
-    /// An equal replica, whose world is a copy; this one stays as it was. The only error is out of memory.
+    /// Returns an equal replica with a copy of the world. The replica is unchanged. The only error is out of memory.
     pub fn copy(&mut self, alloc: Global) -> Result<Replica, AllocError>
         ensures same { self.new ≡ self.old }
         ensures copy { IfOk result (λ r. r ≡ self.old) }
@@ -281,8 +276,7 @@ impl Replica {
     }
 }
 
-// Takes an entry into the world: one whose change is not legal changes nothing. Where memory is
-// refused the world stays as it was.
+// Applies an entry to the world. An illegal change has no effect. If an allocation fails, the world is unchanged.
 fn take_in(world: &mut World, entry: &Entry) -> Result<(), AllocError>
     ensures ok { OnOk result (world.new ≡ step_or_same world.old entry.now.change) }
     ensures err { OnErr result (world.new ≡ world.old) }

@@ -1,4 +1,4 @@
-//! The cells of one history.
+//! The log: a row of write-once cells.
 
 ghost use Rattle.std.specs.Prelude.{◌≡◌, ◌++◌, ◌∷◌, [], ◌<◌, ◌≤◌, ◌+◌, ◌↔◌, ◌⊎◌, length};
 ghost use Rattle.std.specs.Prelude.{IfOk, IfErr, IsErrAnd, MatchOption, OnOk, OnErr};
@@ -13,8 +13,8 @@ use once_cell::race::OnceBox;
 use std::alloc::{AllocError, Global};
 use std::marker::Model;
 
-/// A row of 1 to 65,536 cells. Each takes one entry, once, from whoever sets it first, and keeps
-/// it. A contract sees the names of the cells, in order.
+/// A log of 1 to 65,536 cells. The first thread that sets a cell decides its entry, and the entry never changes. A
+/// contract sees the names of the cells, in order.
 #[derive(Drop)]
 pub struct Row {
     cells: Vec<OnceBox<Entry>>,
@@ -33,7 +33,7 @@ impl Model for Row {
 }
 
 impl Row {
-    /// A row of so many empty cells, 1 to 65,536. The only error is out of memory.
+    /// Returns a row of `capacity` empty cells, 1 to 65,536. The only error is out of memory.
     pub fn new(alloc: Global, capacity: u32) -> Result<Row, AllocError>
         requires from { 1 ≤ capacity }
         requires to { capacity ≤ MOST_ENTRIES }
@@ -46,7 +46,7 @@ impl Row {
         Ok(Row { cells })
     }
 
-    /// How many cells there are, 1 to 65,536.
+    /// Returns the number of cells, 1 to 65,536.
     pub fn capacity(&self) -> u32
         ensures capacity { result ≡ length self.now }
         ensures from { 1 ≤ result }
@@ -55,8 +55,8 @@ impl Row {
         self.cells.len() as u32
     }
 
-    /// A pass of this row, that knows no cell. All its notes are made here, so that no later call asks for memory. The
-    /// only error is out of memory.
+    /// Returns a pass of this row that knows no cell. It allocates all notes of the pass, so that no later call
+    /// allocates. The only error is out of memory.
     pub fn pass(&self, alloc: Global) -> Result<Pass, AllocError>
         ensures row { IfOk result (λ p. p.row ≡ self.now) }
         ensures list { IfOk result (λ p. p.list ≡ []) }
@@ -68,9 +68,9 @@ impl Row {
         Ok(Pass { notes, count: 0 })
     }
 
-    /// Sets the first cell that the pass does not know, and answers how many it knows then. It is
-    /// `HistoryFull` exactly where the pass knows every cell, and `Unpublished` where the cell did
-    /// not take the entry; the entry comes back then, and nothing changed. It takes no memory.
+    /// Sets the first cell that the pass does not know, and returns the number of entries that the pass then knows. The
+    /// error is `HistoryFull` exactly if the pass knows every cell, and `Unpublished` if another thread set the cell
+    /// first. An error returns the entry and changes nothing. It does not allocate.
     pub fn publish(&self, pass: &mut Pass, entry: Box<Entry>) -> Result<u32, (Box<Entry>, RowFault)>
         requires { pass.old.row ≡ self.now }
         ensures row { pass.new.row ≡ pass.old.row }
@@ -93,9 +93,8 @@ impl Row {
         }
     }
 
-    /// The entry of the first cell that the pass does not know, which it knows from then on;
-    /// `None`, and nothing changed, where that cell is not found set, or there is none. It takes no
-    /// memory.
+    /// Returns the entry of the first cell that the pass does not know, and makes it known. It returns `None`, and
+    /// changes nothing, if that cell was not found set, or there is none. It does not allocate.
     pub fn next<'a>(&'a self, pass: &mut Pass) -> Option<&'a Entry>
         requires { pass.old.row ≡ self.now }
         ensures row { pass.new.row ≡ pass.old.row }
@@ -116,8 +115,8 @@ impl Row {
         }
     }
 
-    /// The known entry of this number, counted from 1; `None` exactly where the pass knows none of
-    /// that number. The pass stays as it was. It takes no memory.
+    /// Returns the known entry with this number, counted from 1, and `None` exactly if the pass does not know one. The
+    /// pass is unchanged. It does not allocate.
     pub fn entry<'a>(&'a self, pass: &mut Pass, n: u32) -> Option<&'a Entry>
         requires { pass.old.row ≡ self.now }
         ensures same { pass.new ≡ pass.old }
@@ -132,9 +131,9 @@ impl Row {
         self.cells[at].get_as(&mut pass.notes[at])
     }
 
-    /// Sets the first cells that the pass does not know to these entries, in order. After a fault the
-    /// pass knows some first ones of them. It is `HistoryFull` only where they do not fit after what
-    /// the pass knows, and `Unpublished` where a cell did not take its entry.
+    /// Sets the first cells that the pass does not know to these entries, in order. After an error the pass knows a
+    /// prefix of them. The error is `HistoryFull` only if they do not fit after the known ones, and `Unpublished` if
+    /// another thread set a cell first.
     pub fn fill(&self, alloc: Global, pass: &mut Pass, entries: Vec<Entry>) -> Result<(), FillFault>
         requires { pass.old.row ≡ self.now }
         ensures row { pass.new.row ≡ pass.old.row }

@@ -1,4 +1,4 @@
-//! The text of the entries that a pass knows, written from the cells where they stand.
+//! Writes the history that a pass knows, from the cells of the row.
 
 ghost use Rattle.std.specs.Prelude.{◌≡◌, ◌<◌, ◌+◌, ◌++◌, length, OnOk, OnErr, string_bytes};
 ghost use mathlib.Core.List.{IsPrefix};
@@ -11,8 +11,8 @@ use crate::row::Row;
 use mud_chron::{Format, write_entry};
 use std::alloc::{AllocError, Global};
 
-/// Appends the line of the entry after the first `n`, with its end. The pass stays as it was. The only error is out of
-/// memory, and then the text is as it was.
+/// Appends the line of the entry after the first `n`, with its line end. The pass is unchanged. The only error is out
+/// of memory, and it leaves the text unchanged.
 pub(crate) fn write_line(
     alloc: Global,
     row: &Row,
@@ -28,7 +28,7 @@ pub(crate) fn write_line(
     ensures longer { OnOk result (IsPrefix (string_bytes out.old) (string_bytes out.new)) }
     ensures err { OnErr result (string_bytes out.new ≡ string_bytes out.old) }
 {
-    // for the prover: `known` says that they are at most 65,536, so that `n + 1` fits
+    // for the prover: `known` shows that there are at most 65,536, so `n + 1` does not overflow
     let _known = pass.known();
     match row.entry(pass, n + 1) {
         Some(entry) => write_entry(alloc, n + 1, entry, out),
@@ -36,8 +36,8 @@ pub(crate) fn write_line(
     }
 }
 
-/// Appends the text of the history of the known entries in format 2. The pass stays as it was. The only error is out of
-/// memory, and then the text is as it was.
+/// Appends the text of the history of the known entries in format 2. The pass is unchanged. The only error is out of
+/// memory, and it leaves the text unchanged.
 pub(crate) fn write_text(
     alloc: Global,
     row: &Row,
@@ -59,7 +59,7 @@ pub(crate) fn write_text(
     }
 }
 
-// As `write_text`, but that out of memory may leave a part of the text.
+// Appends like `write_text`, but out of memory may leave a part of the text.
 fn push_text(alloc: Global, row: &Row, pass: &mut Pass, out: &mut String) -> Result<(), AllocError>
     requires { pass.old.row ≡ row.now }
     ensures same { pass.new ≡ pass.old }
@@ -73,8 +73,8 @@ fn push_text(alloc: Global, row: &Row, pass: &mut Pass, out: &mut String) -> Res
     write_end(alloc, pass.known(), out)
 }
 
-/// Appends the last line of the text of a history of so many entries, with its end. The only error is out of memory,
-/// and then the text is as it was.
+/// Appends the last line of the text of a history of `count` entries, with its line end. The only error is out of
+/// memory, and it leaves the text unchanged.
 #[tactic(auto, unfolding(mud_chron::specs::Text::end_line))]
 pub fn write_end(alloc: Global, count: u32, out: &mut String) -> Result<(), AllocError>
     ensures ok { OnOk result (string_bytes out.new ≡ string_bytes out.old ++ end_line count ++ line_feed) }

@@ -1,4 +1,4 @@
--- Where a text can't be read, the line is refused by what bars the player already, or by its own refusal.
+-- If a text can't be read, the line is refused for an earlier reason, or by its own refusal.
 use Rattle.std.proofs.Common.{◌≡◌, ℕ, Bool, true, false, cond, List, [], ◌∷◌, ◌++◌, Option, Some, None, refl, sym}
 use Rattle.std.proofs.Common.{◌∙◌, ap, drop}
 use Rattle.std.specs.Prelude.{find, not, ◌||◌, unwrap_or, if◌then◌else◌}
@@ -25,7 +25,7 @@ use Rattle.mud_rules.specs.inner.Bars.{all_refusals, refuses, no_player, no_room
 use Rattle.mud_rules.proofs.Least.{Agree, lesser-agree}
 use Rattle.mud_rules.proofs.Ordered.{outcome_is, outcome_first}
 
--- the line is refused by what bars p, or else by its own refusal
+-- the line is refused by what stops p already, or else by its own refusal
 abbrev pub IsBarred : State → ℕ → Option Refusal → Refusal → Deed → Type 0
 IsBarred w p bar own deed = Refused (unwrap_or bar own) ≡ does w p (Some own) deed
 
@@ -41,7 +41,7 @@ before_cost = NoSuch ∷ WrongKind ∷ NotHere ∷ Denied ∷ BadName ∷ NameTa
 abbrev done : ℕ → Deed → Change
 done p deed = record { actor = p; deed = deed }
 
--- what is tested before the texts
+-- the tests before the texts are read
 abbrev tests : Bool → Bool → Bool → Refusal → Bool
 tests none wrong denied NoSuch = none
 tests none wrong denied WrongKind = wrong
@@ -68,7 +68,7 @@ behind_key =
 abbrev behind_cost : List Refusal
 behind_cost = BadCost ∷ RecursiveMove ∷ LockedExit ∷ LockedRoom ∷ LockedThing ∷ InUse ∷ WorldFull ∷ []
 
--- the first of the tests is what bars
+-- the first of the tests is the refusal
 name_least : (e : Change) (none wrong denied : Bool) →
     option_map_or Refused (lesser (Some BadName) (find (tests none wrong denied) (before_name ++ behind_name)))
     (Changes e)
@@ -125,7 +125,7 @@ by_cost w p deed none wrong denied same =
     (lesser-agree BadCost (fails w (done p deed)) (tests none wrong denied) before_cost behind_cost same refl)
     ∙ cost_least (done p deed) none wrong denied)
 
--- a deed that only a player of the world is asked for
+-- a deed that only asks for a player of the world
 abbrev IsFree : State → ℕ → Deed → Type 0
 IsFree w p deed =
     Agree (fails w (done p deed)) (tests (not (exists w p) || false) (not (is_player w p) || false) false) before_name
@@ -171,7 +171,7 @@ cost_barred w p x n =
     (not (owns w p x))
     (refl, (refl, (refl, (refl, (refl, (refl, (refl, (refl, tt))))))))
 
--- ---- what is no speech
+-- ---- texts that are not speeches
 
 find-agree : (p q : Refusal → Bool) (fs : List Refusal) → Agree p q fs → find p fs ≡ find q fs
 find-agree p q [] same = refl
@@ -188,7 +188,7 @@ as_own w e own same =
     (find-agree (λ f. refuses None f || fails w e f) (λ f. refuses (Some own) f || fails w e f) all_refusals same)
     ∙ sym (outcome_first w (Some own) e)
 
--- where no text is said, the condition of the name holds of the change, and own or not makes no difference
+-- without a valid speech, the condition of BadName holds for the change, and an own refusal makes no difference
 agree-but_name : (w : State) (e : Change) → fails w e BadName ≡ true
     → Agree (λ f. refuses None f || fails w e f) (λ f. refuses (Some BadName) f || fails w e f) all_refusals
 agree-but_name w e bad = (refl, (refl, (refl, (refl, (refl, (refl, (bad, later)))))))

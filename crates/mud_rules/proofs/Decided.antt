@@ -1,4 +1,4 @@
--- What a line comes to is lawful, and the names, keys and texts of a change are such.
+-- The verdict of a line is lawful, and the names, keys and texts of its change are valid.
 use Rattle.std.proofs.Common.{◌≡◌, ℕ, ◌≤◌, inl, inr, Bool, true, false, List, [], Option, None, Some, Result, Ok}
 use Rattle.std.proofs.Common.{Err}
 use Rattle.std.proofs.Common.{refl, sym, ◌∙◌, subst}
@@ -63,14 +63,14 @@ use Rattle.mud_rules.proofs.Bounds.{number_of_object}
 use Rattle.mud_rules.proofs.Ordered.{outcome_is}
 use Rattle.mud_rules.specs.declared.verdict.Verdict.TheVariants.{Change as Changes}
 
--- what is true of a verdict, and of the parts of its change
+-- the facts about a verdict, and about the parts of its change
 abbrev IsFine : State → Option ℕ → Verdict → Type 0
 IsFine w player (verdict.Change e) = IsMade w e × IsActor w player e
 IsFine w player (verdict.Ask q) = IsQuestion w q
 IsFine w player (verdict.Become n) = IsTrue (is_player w n)
 IsFine w player (verdict.Refused f) = Unit {0}
 
--- ---- what a verdict is made of
+-- ---- the parts of a verdict
 no-some : {A B : Type 0} (x : A) → Some x ≡ None → B
 no-some x e = absurd (cc)
 
@@ -147,7 +147,7 @@ true-of : (b : Bool) → not b ≡ false → b ≡ true
 true-of true e = refl
 true-of false e = absurd (true≢false e)
 
--- what is no speech is refused
+-- a text that is not a speech is refused
 says-speech : (w : State) (p : ℕ) (text : List ℕ)
     → refusal w (record { actor = p; deed = deed.Say text }) ≡ None → IsTrue (is_speech text)
 says-speech w p text legal =
@@ -354,7 +354,7 @@ fine-proof w player (Err f) is = tt
 
 -- ---- the table
 
--- the last clause is for all commands that do something with what they find
+-- the last clause covers all commands that act on what they find
 fine-command : (w : State) → IsSound w → (p : ℕ) (l : Line) (v : Verb) → IsFine w (Some p) (command w p l v)
 fine-command w sound p l verb.Connect = fine-connect_line w sound (Some p) l
 fine-command w sound p l verb.Look =
@@ -412,7 +412,7 @@ fine-decision w sound (Some p) l = go (verb_named l.verb)
     go None = fine-found w (Some p) _ _ (λ x. fine-does w p None (deed.Walk x) refl tt)
     go (Some v) = fine-command w sound p l v
 
--- ---- what follows
+-- ---- consequences
 
 lawful-of : (w : State) (player : Option ℕ) (v : Verdict) → IsFine w player v → IsLawful w player v
 lawful-of w player (verdict.Change e) is = (is.0.legal, is.1)

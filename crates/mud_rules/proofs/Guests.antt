@@ -1,4 +1,4 @@
--- What a guest may ask.
+-- Questions of guests.
 use Rattle.std.proofs.Common.{◌≡◌, ℕ, Bool, true, false, List, Option, Some, None, subst}
 use Rattle.std.specs.Prelude.{not}
 use Rattle.std.specs.Option.{option_map_or}
@@ -30,7 +30,7 @@ IsPlain (query.Journey journey) = ⊥
 IsPlain (query.Proof journey) = ⊥
 IsPlain query.History = Unit {0}
 
--- what comes of a guest's line is no question about a journey
+-- a guest's verdict is not a question about a journey
 abbrev IsAskable : Verdict → Type 0
 IsAskable (verdict.Ask q) = IsPlain q
 IsAskable (verdict.Change e) = Unit {0}

@@ -1,4 +1,4 @@
--- The lesser of a refusal and the first one of a list by rising number.
+-- The lesser of a refusal and of the first one in a list that is sorted by number.
 use Rattle.std.proofs.Common.{◌≡◌, ◌<◌, Bool, true, false, cond, List, [], ◌∷◌, ◌++◌, Option, Some, None, refl, sym}
 use Rattle.std.proofs.Common.{◌∙◌, ap, subst, arith}
 use Rattle.std.specs.Prelude.{find, nat_eq, nat_lt, not, ◌&&◌, ◌||◌}
@@ -30,12 +30,12 @@ lesser-late own p (f ∷ fs) late =
     ∙ ap (λ b. cond b (Some f) (Some own)) (not-true (nat_lt (number f) (number own)) parts.0))
     (λ no. ap (λ b. lesser (Some own) (cond b (Some f) (find p fs))) no ∙ lesser-late own p fs parts.1)
 
--- the tests agree on these
+-- the tests agree on these refusals
 abbrev pub Agree : (Refusal → Bool) → (Refusal → Bool) → List Refusal → Type 0
 Agree p q [] = Unit {0}
 Agree p q (f ∷ fs) = (p f ≡ q f) × Agree p q fs
 
--- two tests that agree on what comes before the own refusal
+-- two tests that agree on the refusals before the own one
 pub lesser-agree : (own : Refusal) (p q : Refusal → Bool) (before behind : List Refusal) → Agree p q before
     → is_late own behind ≡ true
     → lesser (Some own) (find p (before ++ behind)) ≡ lesser (Some own) (find q (before ++ behind))
@@ -54,12 +54,12 @@ abbrev pub Either : Bool → Type 0 → Type 0 → Type 0
 Either true A B = A
 Either false A B = B
 
--- the own refusal stands in the list, those before it have lower numbers, and none after it has
+-- the own refusal is in the list; those before it have lower numbers, and none after it has
 abbrev pub InOrder : Refusal → List Refusal → Type 0
 InOrder own [] = ⊥
 InOrder own (f ∷ fs) = Either (nat_lt (number f) (number own)) (InOrder own fs) ((f ≡ own) × (is_late own fs ≡ true))
 
--- the own refusal as one of the list
+-- the own refusal as an element of the list
 pub find-own : (own : Refusal) (p : Refusal → Bool) (fs : List Refusal) → InOrder own fs
     → lesser (Some own) (find p fs) ≡ find (λ f. nat_eq (number own) (number f) || p f) fs
 find-own own p [] order = absurd order
@@ -94,13 +94,13 @@ find-own own p (f ∷ fs) order =
     ∙ lesser-late own p fs at.1
     ∙ sym (ap (λ b. cond (b || p f) (Some f) (find q fs)) same ∙ ap Some at.0)))
 
--- one more that doesn't pass
+-- one more refusal that does not pass
 pub find-append_miss : (p : Refusal → Bool) (fs : List Refusal) (f : Refusal) → p f ≡ false
     → find p (fs ++ f ∷ []) ≡ find p fs
 find-append_miss p [] f miss = ap (λ b. cond b (Some f) None) miss
 find-append_miss p (g ∷ fs) f miss = ap (λ r. cond (p g) (Some g) r) (find-append_miss p fs f miss)
 
--- each refusal stands in the list of all
+-- each refusal is in the list of all
 pub in_order : (own : Refusal) → InOrder own all_refusals
 in_order NotUnderstood = (refl, refl)
 in_order NoSuch = (refl, refl)
@@ -121,7 +121,7 @@ in_order InUse = (refl, refl)
 in_order WorldFull = (refl, refl)
 in_order PartyBad = (refl, refl)
 
--- the lesser of an own refusal and the first of the list
+-- the lesser of an own refusal and of the first in the list
 pub lesser_first : (own : Option Refusal) (p : Refusal → Bool)
     → lesser own (find p all_refusals) ≡ find (λ f. refuses own f || p f) all_refusals
 lesser_first None p = refl

@@ -12,15 +12,15 @@ use Rattle.mud_rules.specs.Table.{verbs, verb_named}
 abbrev Rows : Type 0
 Rows = List (List ℕ × Verb)
 
--- the verb that a word in lower case is among some rows
+-- the verb that a lower-case word names among some rows
 abbrev among : List ℕ → Rows → Option Verb
 among word rows = lookup (λ other. bytes_eq word (str_to_ascii_lowercase other)) rows
 
--- rows among which words that begin with a letter find what they find among all
+-- for words that begin with a letter, these rows find what all rows find
 abbrev pub Serves : ℕ → Rows → Type 0
 Serves letter rows = (ls : List ℕ) → among (letter ∷ ls) rows ≡ among (letter ∷ ls) verbs
 
--- those of all rows that begin with a letter
+-- the rows that begin with a letter
 abbrev pub with_letter : ℕ → Rows
 with_letter letter = filter (λ row. eqb (get_or row.0 0 0) letter) verbs
 
@@ -62,7 +62,7 @@ unfolding verb_named
 empty_word [] none = refl
 empty_word (c ∷ cs) none = absurd (omega arith)
 
--- what the rows of the first letter give
+-- the verb among the rows of the first letter
 pub first_letter : (text bytes : List ℕ) (letter : ℕ) (rows : Rows) → bytes ≡ text → 0 < length bytes
     → letter ≡ to_ascii_lowercase (get_or bytes 0 0)
     → ((c : ℕ) (cs : List ℕ) → to_ascii_lowercase c ≡ letter

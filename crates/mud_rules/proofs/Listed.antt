@@ -12,7 +12,7 @@ after_first : (lead : List ℕ) (w : State) (n : ℕ) (ns : List ℕ)
 after_first lead w n [] = refl
 after_first lead w n (m ∷ ns) = refl
 
--- the numbers are listed one by one: one that passes the test, and one that does not
+-- the next number of a list, which passes the test or does not
 module _ (test : ℕ → Bool) (lead : List ℕ) (w : State) (numbers : List ℕ) (i : ℕ) (lt : i < length numbers) where
   step : (passes : Bool) → test (get_or numbers i 0) ≡ passes
       → listed_after lead w (filter test (drop i numbers))

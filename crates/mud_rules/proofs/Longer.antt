@@ -1,4 +1,4 @@
--- A text is a beginning of a name where it is the whole name, or the beginning of a longer one.
+-- A text is a prefix of a name if it is the whole name, or a prefix of a longer one.
 use Rattle.std.proofs.Common.{◌≡◌, ℕ, ◌<◌, ◌≤◌, Bool, true, false, cond, ◌||◌, List, [], ◌∷◌, Option, Some, None}
 use Rattle.std.proofs.Common.{length, refl, sym, ◌∙◌, ap, arith, Result, Ok, Err}
 use Rattle.std.specs.Prelude.{◌&&◌, nat_lt, filter}
@@ -85,7 +85,7 @@ sole_none [] none = refl
 sole_none (n ∷ []) none = absurd (let bad : ◌≡◌ {A = Result ℕ Match} (Ok n) (Err NoSuch) = none in cc)
 sole_none (n ∷ m ∷ ns) none = absurd (let bad : ◌≡◌ {A = Result ℕ Match} (Err Ambiguous) (Err NoSuch) = none in cc)
 
--- where none of the objects has the one, they have the other where they have one of the two
+-- if no object satisfies the one, objects that satisfy one of the two satisfy the other
 others : (p q e : ℕ → Bool) → ((n : ℕ) → p n ≡ (e n || q n)) → (ns : List ℕ) → filter e ns ≡ []
     → filter q ns ≡ filter p ns
 others p q e same [] none = refl
@@ -101,7 +101,8 @@ others p q e same (n ∷ ns) none =
     ap (λ b. cond b (n ∷ filter q ns) (filter q ns)) (sym alike)
     ∙ ap (λ ms. cond (p n) (n ∷ ms) ms) (others p q e same ns rest))
 
--- where no candidate has the text as a name, those with a longer name that begins so are all whose name begins so
+-- if no candidate has the text as a name, the candidates with a longer name that begins with it are all whose names
+-- begin with it
 pub longer_only : (w : State) (text : List ℕ) (candidates : List ℕ) → sole_fit Equal w text candidates ≡ Err NoSuch
     → sole_fit Prefix w text candidates ≡ sole_like Prefix w text candidates
 longer_only w text candidates none =

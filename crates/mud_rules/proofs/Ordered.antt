@@ -1,4 +1,4 @@
--- The first refusal of a list by rising number, as the code finds it.
+-- The first refusal in a sorted list, as the code finds it.
 use Rattle.std.proofs.Common.{◌≡◌, ℕ, Bool, false, cond, List, [], ◌∷◌, ◌++◌, Option, Some, Result, Ok, Err, refl, sym}
 use Rattle.std.proofs.Common.{◌∙◌, ap}
 use Rattle.std.specs.Prelude.{find, ◌||◌}
@@ -23,7 +23,7 @@ use Rattle.mud_rules.specs.Journeys.{meeting, least_refusal, members}
 use Rattle.mud_rules.specs.inner.Bars.{all_refusals, refuses, unfit}
 use Rattle.mud_rules.proofs.Least.{lesser_first, find-append_miss}
 
--- three refusals are of lines only
+-- three refusals apply only to lines
 of_lines : (w : State) (p : ℕ) (deed : Deed) → let e : Change = record { actor = p; deed = deed } in
     (fails w e NotUnderstood ≡ false) × ((fails w e Ambiguous ≡ false) × (fails w e PartyBad ≡ false))
 of_lines w p (Dig target doors) = (refl, (refl, refl))
@@ -44,7 +44,7 @@ changes_alone =
     WrongKind ∷ NotHere ∷ Denied ∷ BadName ∷ NameTaken ∷ BadKey ∷ KeyNesting ∷ BadCost ∷ RecursiveMove
     ∷ LockedExit ∷ LockedRoom ∷ LockedThing ∷ InUse ∷ WorldFull ∷ []
 
--- so they may stand in the list
+-- so they may be in the list
 all_or_some : (p : Refusal → Bool) → p NotUnderstood ≡ false → p Ambiguous ≡ false → p PartyBad ≡ false
     → find p refusals ≡ find p all_refusals
 all_or_some p one three eighteen =
@@ -58,7 +58,7 @@ first_of_all w e =
     let none = of_lines w e.actor e.deed in
     all_or_some (fails w e) none.0 none.1.0 none.1.1
 
--- the first refusal, by rising number, that is the command's own or whose condition holds
+-- the first refusal, in rising order, that is the command's own or whose condition holds
 pub outcome_first : (w : State) (own : Option Refusal) (e : Change)
     → outcome w own e ≡ option_map_or Refused (find (λ f. refuses own f || fails w e f) all_refusals) (Changes e)
 unfolding outcome
@@ -66,7 +66,7 @@ outcome_first w own e =
     ap (λ r. option_map_or Refused (lesser own r) (Changes e)) (first_of_all w e)
     ∙ ap (λ r. option_map_or Refused r (Changes e)) (lesser_first own (fails w e))
 
--- a command's own refusal, or the lesser one of its change
+-- the lesser of a command's own refusal and its change's
 pub outcome_is : (w : State) (own : Option Refusal) (e : Change)
     → option_map_or Refused (lesser own (refusal w e)) (Changes e) ≡ outcome w own e
 unfolding outcome

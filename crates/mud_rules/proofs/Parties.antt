@@ -1,4 +1,4 @@
--- Who a party is.
+-- The members of a party.
 use Rattle.std.proofs.Common.{◌≡◌, ◌≢◌, ℕ, Bool, true, false, cond, List, [], ◌∷◌, length, Option, Some, None, Result}
 use Rattle.std.proofs.Common.{Ok, Err, refl, sym, ◌∙◌, ap, subst, arith}
 use Rattle.std.specs.Prelude.{nat_eq, nat_le, nat_lt, not, ◌&&◌, ◌||◌, map, IsTrue, IfOk}
@@ -42,7 +42,7 @@ distinct_of (p ∷ ps) apart =
     let parts = and_parts (not (list_any (λ q. nat_eq q p) ps)) (all_distinct ps) apart in
     AllPairs-cons (λ p q. p ≢ q) p ps (others p ps parts.0) (distinct_of ps parts.1)
 
--- those who pass the test are a party
+-- a list that passes the test is a party
 pub party_of : (ps : List ℕ) → is_party ps ≡ true → IsParty ps
 party_of ps test =
     let few = and_parts (nat_le 2 (length ps)) (nat_le (length ps) 8 && all_distinct ps) test in
@@ -63,7 +63,7 @@ one_more w (Ok n) found all =
     (λ no. subst Q (sym no) all)
 one_more w (Err f) found all = all
 
--- those whom texts mean are players
+-- the members that texts mean are players
 pub members_are_players : (w : State) (p : ℕ) (texts : List (List ℕ))
     → All (λ n. IsTrue (is_player w n)) (members (map (player_meant w p) texts))
 members_are_players w p [] = All-nil (λ n. IsTrue (is_player w n))
@@ -78,7 +78,7 @@ never_none f (Some g) is =
     (λ yes. let bad : Some g ≡ None = sym (ap (λ b. cond b (Some g) (Some f)) yes) ∙ is in cc)
     (λ no. let bad : Some f ≡ None = sym (ap (λ b. cond b (Some g) (Some f)) no) ∙ is in cc)
 
--- those who are not refused are a party
+-- a list that is not refused is a party
 pub fit : (ps : List ℕ) (other : Option Refusal) → lesser (unfit ps) other ≡ None → IsParty ps
 fit ps other none =
     bool_cases (is_party ps)
@@ -92,7 +92,7 @@ met : (w : State) (found : List (Result ℕ Refusal)) (r : Option Refusal)
 met w found None is all = (all, fit (members found) (least_refusal found) is)
 met w found (Some f) is all = tt
 
--- those who meet are a party of players
+-- the members of a meeting are a party of players
 pub meet-lawful : (w : State) (p : ℕ) (text : List ℕ) → IfOk (meet w p text) (IsJourney w)
 meet-lawful w p text =
     let found = map (player_meant w p) (parts_of text) in

@@ -1,4 +1,4 @@
--- The parts of a meeting, gone over one by one.
+-- The parts of a meeting, one at a time.
 use Rattle.std.proofs.Common.{◌≡◌, ℕ, suc, ◌+◌, ◌<◌, ◌≤◌, cond, List, ◌∷◌, length, drop, get_or, Option, Some, None}
 use Rattle.std.proofs.Common.{Result, Ok, Err, refl, sym, ◌∙◌, ap, add-one, drop-cons, arith}
 use Rattle.std.specs.Prelude.{nat_lt}
@@ -14,7 +14,7 @@ second f g lt = ap (λ b. cond b (Some g) (Some f)) (lt-ltb (number g) (number f
 first : (f g : Refusal) → number f ≤ number g → lesser (Some f) (Some g) ≡ Some f
 first f g le = ap (λ b. cond b (Some g) (Some f)) (le-ltb (number g) (number f) le)
 
--- it makes no difference which two of three come first
+-- the lesser of three refusals does not depend on the grouping
 pub lesser-assoc : (a b c : Option Refusal) → lesser (lesser a b) c ≡ lesser a (lesser b c)
 lesser-assoc None b c = refl
 lesser-assoc (Some f) None c = refl

@@ -1,4 +1,4 @@
--- What a line asks, the verb of a question asks.
+-- Only the verb of a question asks.
 use Rattle.std.proofs.Common.{◌≡◌, ℕ, Bool, true, false, List, Option, None, Some, Result, Ok, Err}
 use Rattle.std.proofs.Common.{refl, subst}
 use Rattle.std.specs.Prelude.{not, ◌&&◌, is_none, if◌then◌else◌}
@@ -30,7 +30,7 @@ use Rattle.mud_rules.specs.Table.{asks, is_question}
 use Rattle.mud_rules.specs.Laws.{AreQuestions}
 use Rattle.mud_rules.proofs.Ordered.{outcome_is}
 
--- what is asked, only a question asks
+-- only a question asks
 abbrev AsksIf : Bool → Verdict → Type 0
 AsksIf question (verdict.Ask q) = question ≡ true
 AsksIf question (verdict.Change e) = Unit {0}
@@ -76,7 +76,7 @@ asks-connect_line b w l =
 
 -- ---- the table
 
--- the last clause is for all commands that do something with what they find
+-- the last clause covers all commands that act on what they find
 asks-command : (w : State) (p : ℕ) (l : Line) (v : Verb) → AsksIf (asks v) (command w p l v)
 asks-command w p l verb.Connect = asks-connect_line false w l
 asks-command w p l verb.Look =

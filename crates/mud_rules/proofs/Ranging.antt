@@ -1,4 +1,4 @@
--- Numbers from 0 on, one after the other.
+-- Consecutive numbers from 0 on.
 use Rattle.std.proofs.Common.{◌≡◌, ℕ, zero, suc, ◌+◌, [], ◌∷◌, ◌++◌, ◌∙◌, ap, arith}
 use Rattle.std.specs.List.{range_with_len}
 

@@ -1,4 +1,4 @@
--- A text that is gone over byte by byte, and its sides between bars.
+-- A text read byte by byte, and its sides between bars.
 use Rattle.std.proofs.Common.{◌≡◌, ℕ, Bool, true, false, cond, List, [], ◌∷◌, refl, ◌∙◌, ap, sym}
 use Rattle.std.specs.Prelude.{◌||◌, if◌then◌else◌}
 use Rattle.std.specs.List.{list_any, slice_split, onto_first}
@@ -6,18 +6,18 @@ use Rattle.mud_rules.specs.Matches.{is_empty}
 use Rattle.mud_rules.specs.Commands.{is_bar, has_empty_side}
 use Rattle.mud_rules.proofs.Least.{bool_cases}
 
--- of the sides between bars one is empty; fresh says that nothing stands in this side yet
+-- one of the sides between bars is empty; fresh says that the current side is empty so far
 abbrev pub empty_side : Bool → List ℕ → Bool
 empty_side fresh [] = fresh
 empty_side fresh (c ∷ cs) = if is_bar c then fresh || empty_side true cs else empty_side false cs
 
--- whether the first side is empty makes no difference once something stands in it
+-- once a side is not empty, the result depends only on the others
 begun : (x c : ℕ) (sides : List (List ℕ))
     → list_any is_empty (onto_first x (onto_first c sides)) ≡ list_any is_empty (onto_first c sides)
 begun x c [] = refl
 begun x c (side ∷ sides) = refl
 
--- what is left of a text, at the beginning of a side, and within a side
+-- the rest of a text, at the beginning of a side, and within a side
 pub sides_of : (text : List ℕ)
     → (empty_side true text ≡ has_empty_side text)
     × ((x : ℕ) → empty_side false text ≡ list_any is_empty (onto_first x (slice_split is_bar text)))

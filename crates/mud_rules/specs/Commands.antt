@@ -1,4 +1,4 @@
--- What rows of the table of commands do with the objects and texts that a line gives.
+-- The verdicts of the commands, given their objects and texts.
 use Rattle.std.specs.Prelude.{ℕ, not, ◌||◌, List, [], length, nat_eq, nat_lt, Bool, Option, Some, None, is_none}
 use Rattle.std.specs.Prelude.{unwrap_or, Result, if◌then◌else◌}
 use Rattle.std.specs.Option.{option_map, option_map_or, option_and_then, option_zip}
@@ -27,7 +27,7 @@ use Rattle.mud_rules.specs.Outcome.{outcome, does, does_read, object_meant, of_k
 
 -- ---- players
 
--- the player who has that name, else a new one
+-- become the player with that name, or else make a new one
 abbrev pub connect_named : State → List ℕ → Verdict
 connect_named w name =
     option_map_or Become (named_player w name) (outcome w None (record { actor = w.next; deed = Player name }))
@@ -36,21 +36,21 @@ connect_named w name =
 abbrev pub connect : State → List ℕ → Verdict
 connect w text = option_map_or (connect_named w) (name_in text) (Refused BadName)
 
--- ---- moving; what the change asks itself is not said again
+-- ---- moving; the conditions of the change itself are not repeated
 
--- drop X: what he carries, at any depth, to his room
+-- drop X: a thing that the player carries at any depth moves to the player's room
 abbrev pub drop_down : State → ℕ → ℕ → Verdict
 drop_down w p x = does w p (refused_if (not (within w x p)) NotHere) (Move x (unwrap_or (place_of w p) 0))
 
--- two refusals of numbers 4 and 5, by their conditions
+-- refusals 4 and 5, by their conditions
 abbrev pub kind_then_here : Bool → Bool → Option Refusal
 kind_then_here kind here = lesser (refused_if kind WrongKind) (refused_if here NotHere)
 
--- put X in Y: into a thing in his reach
+-- put X in Y: a thing moves into a thing in reach
 abbrev pub put : State → ℕ → ℕ × ℕ → Verdict
 put w p o = does w p (kind_then_here (not (is_thing w o.1)) (not (in_reach w p o.1))) (Move o.0 o.1)
 
--- give X to Y: what he carries, to a player in his room
+-- give X to Y: a carried thing moves to a player in the room
 abbrev pub give : State → ℕ → ℕ × ℕ → Verdict
 give w p o =
     does w p
@@ -59,12 +59,12 @@ give w p o =
 
 -- ---- keys
 
--- the object that a name in a key text means to a player, if it exists; why it means none makes no difference to a line
+-- the object that a name in a key text means to a player, if it exists; a line does not distinguish why it means none
 abbrev pub near_named : State → ℕ → List ℕ → Result ℕ Miss
 near_named w p name =
     result_map_both (λ n. n) (λ f. MissNoSuch) (of_kind (exists w) (object_meant NoSuch (local_match w p name)))
 
--- the key that a text means to a player, where it is a key text and each of its names means an object that exists
+-- the key that a text means to a player, if it is a key text and each of its names means an existing object
 abbrev pub key_meant : State → ℕ → List ℕ → Option (Tree ℕ)
 key_meant w p text = option_and_then (λ key. result_ok (resolved (near_named w p) key)) (key_in text)
 
@@ -102,7 +102,7 @@ has_bar text = nat_lt (position_or_len is_bar text) (length text)
 abbrev pub has_empty_side : List ℕ → Bool
 has_empty_side text = list_any is_empty (slice_split is_bar text)
 
--- an exit `NAMES`, or with one back `NAMES|NAMES`: a name has no bar, so there is no second one
+-- an exit `NAMES`, or with an exit back `NAMES|NAMES`: a name contains no bar, so there is at most one
 abbrev pub doors_in : List ℕ → Option Doors
 doors_in text =
     if has_bar text then
@@ -110,11 +110,11 @@ doors_in text =
     (option_zip (names_in (before_first is_bar text)) (names_in (after_first is_bar text)))
     else option_map (λ out. record { out = out; back = None }) (names_in text)
 
--- `#n` is an old room, all else the names of a new one
+-- `#n` is an existing room, and any other text is the names of a new one
 abbrev pub target_in : List ℕ → Option Target
 target_in text = option_map_or (λ n. Some (Old n)) (object_number text) (option_map New (names_in text))
 
--- exits to a room; blanks take the place of what can't be read, as in `does_read`
+-- exits to a room; blanks replace unreadable texts, as in `does_read`
 abbrev pub dig_between : State → ℕ → Option Doors → Option Target → Verdict
 dig_between w p doors target =
     does w p (refused_if (is_none doors || is_none target) BadName)

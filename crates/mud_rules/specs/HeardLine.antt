@@ -1,4 +1,4 @@
--- What a player hears of the changes of others, as bytes.
+-- Notices: the lines by which players hear of the changes of others, as bytes.
 use Rattle.std.specs.Prelude.{ℕ, nat_eq, false, List, ◌++◌, codes, Option, Some, None, if◌then◌else◌}
 use Rattle.std.specs.Option.{option_map_or, option_or}
 use Rattle.mud_world.specs.declared.change.Change.{Change}
@@ -7,7 +7,7 @@ use Rattle.mud_world.specs.declared.change.Deed.TheVariants.{Move, Walk, Player,
 use Rattle.mud_world.specs.State.{State, place_of, is_number, is_thing, destination_of}
 use Rattle.mud_rules.specs.ObjectLists.{first_name}
 
--- the line, where player p is in that room
+-- the notice, if player p is in that room
 abbrev pub heard_in : State → ℕ → Option ℕ → List ℕ → Option (List ℕ)
 heard_in w p room line = if option_map_or (λ r. is_number r (place_of w p)) room false then Some line else None
 
@@ -15,7 +15,7 @@ heard_in w p room line = if option_map_or (λ r. is_number r (place_of w p)) roo
 abbrev pub sentence : State → ℕ → List ℕ → ℕ → List ℕ → List ℕ
 sentence w actor does thing end = first_name w actor ++ does ++ first_name w thing ++ end
 
--- what is said of thing T that goes from A to himself, his room, a thing Y, the hearer, another player Y
+-- the notice that thing T goes from A to A itself, to A's room, to a thing Y, to the hearer, or to another player Y
 abbrev pub moved_line : State → ℕ → ℕ → ℕ → ℕ → List ℕ
 moved_line w p actor thing to =
     if nat_eq to actor then sentence w actor (codes " takes ") thing (codes ".")
@@ -24,7 +24,8 @@ moved_line w p actor thing to =
     else (if nat_eq to p then sentence w actor (codes " gives ") thing (codes " to you.")
     else sentence w actor (codes " gives ") thing (codes " to " ++ first_name w to ++ codes ".")))
 
--- a walk is heard in the room that the actor leaves, or else in the one that he comes to; a new player comes to #0
+-- a walk is heard in the room that the actor leaves, and otherwise in the room that the actor enters; a new player
+-- appears in #0
 abbrev pub heard_deed : State → ℕ → ℕ → Deed → Option (List ℕ)
 heard_deed w p actor (Say text) =
     heard_in w p (place_of w actor) (first_name w actor ++ codes " says, \"" ++ text ++ codes "\"")
@@ -36,6 +37,6 @@ heard_deed w p actor (Walk exit) =
 heard_deed w p actor (Player name) = heard_in w p (Some 0) (name ++ codes " arrives.")
 heard_deed w p actor deed = None
 
--- the line that player p is told of another's change, w being the world before it
+-- the notice of another's change to player p, given the world w before it
 abbrev pub heard_line : State → Change → ℕ → Option (List ℕ)
 heard_line w e p = if nat_eq p e.actor then None else heard_deed w p e.actor e.deed

@@ -1,4 +1,4 @@
--- Routes and meetings that a player may ask for. Each comes to a journey, or to its least refusal.
+-- Routes and meetings that a player may ask for. Each gives a journey or its least refusal.
 use Rattle.std.specs.Prelude.{ℕ, not, List, [], ◌∷◌, map, filter_map, Option, None, Some, Result, Ok, Err}
 use Rattle.std.specs.Option.{option_map_or}
 use Rattle.std.specs.Result.{result_ok, result_map_both}
@@ -22,17 +22,17 @@ route w p text =
 abbrev pub player_meant : State → ℕ → List ℕ → Result ℕ Refusal
 player_meant w p text = of_kind (is_player w) (object_meant NoSuch (match_among (is_player w) w p text))
 
--- the least refusal of the parts, where one of them has any
+-- the least refusal of the parts, if any has one
 abbrev pub least_refusal : List (Result ℕ Refusal) → Option Refusal
 least_refusal [] = None
 least_refusal (Ok n ∷ parts) = least_refusal parts
 least_refusal (Err f ∷ parts) = lesser (Some f) (least_refusal parts)
 
--- those who were found
+-- the players that were found
 abbrev pub members : List (Result ℕ Refusal) → List ℕ
 members parts = filter_map result_ok parts
 
--- the meeting of those who were found, or the least refusal: of a part, or PartyBad where they are no party
+-- the meeting of the players that were found, or the least refusal: that of a part, or PartyBad if they are not a party
 unfoldable pub meeting : List (Result ℕ Refusal) → Result Journey Refusal
 meeting parts =
     let party = members parts in

@@ -1,4 +1,4 @@
--- What the definitions of the table come to, said in other words.
+-- Consequences of the table.
 use Rattle.std.specs.Prelude.{◌≡◌, ℕ, IsTrue, Option, Some, None}
 use Rattle.mud_world.specs.declared.change.Change.{Change}
 use Rattle.mud_world.specs.declared.change.Deed.{Deed}
@@ -17,13 +17,13 @@ use Rattle.mud_rules.specs.Outcome.{does}
 use Rattle.mud_rules.specs.declared.verdict.Query.{Query}
 use Rattle.mud_rules.specs.Table.{decision, is_question}
 
--- ---- texts that can't be read
+-- ---- unreadable texts
 
--- where the command refuses by its own refusal, the verdict is the same whatever is read
+-- if the command refuses by its own refusal, the verdict does not depend on the text
 abbrev pub IsAlike : {A : Type 0} → State → ℕ → Refusal → (A → Deed) → Type 0
 IsAlike {A} w p own deed = (x y : A) → does w p (Some own) (deed x) ≡ does w p (Some own) (deed y)
 
--- each text that can't be read is refused as it would be whatever it were read as
+-- each unreadable text is refused as any readable text would be
 pub record IsAlikeWhateverIsRead (w : State) (p : ℕ) : Type 0 where
   pub names : IsAlike w p BadName Make
   pub renaming : (x : ℕ) → IsAlike w p BadName (Rename x)
@@ -32,16 +32,16 @@ pub record IsAlikeWhateverIsRead (w : State) (p : ℕ) : Type 0 where
   pub key : (x : ℕ) → IsAlike w p BadKey (Lock x)
   pub cost : (x : ℕ) → IsAlike w p BadCost (Cost x)
 
--- ---- what a line comes to
+-- ---- changes of lines
 
--- the change is legal, and its names, keys and texts are such
+-- the change is legal, and its names, keys and texts are valid
 pub record IsMade (w : State) (e : Change) : Type 0 where
   pub legal : refusal w e ≡ None
   pub parts : HasParts e.deed
 
--- ---- what a line asks
+-- ---- questions of lines
 
--- what a line asks is asked by the verb of a question, whoever typed it
+-- only the verb of a question asks, for every player
 abbrev pub AreQuestions : Type 0
 AreQuestions =
     (w : State) (player : Option ℕ) (l : Line) (q : Query) → decision w player l ≡ Ask q → IsTrue (is_question l)

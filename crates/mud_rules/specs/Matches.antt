@@ -1,4 +1,4 @@
--- Which object a text means.
+-- Matching: the object that a text means.
 use Rattle.std.specs.Prelude.{ℕ, ◌+◌, ◌-◌, ◌*◌, Bool, ◌&&◌, nat_eq, nat_lt, List, [], ◌∷◌, ◌++◌, length, take, nat_le}
 use Rattle.std.specs.Prelude.{filter, codes, Option, Some, None, ok_or, Result, Ok, Err, if◌then◌else◌}
 use Rattle.std.specs.Option.{option_map_or}
@@ -14,32 +14,32 @@ use Rattle.mud_rules.specs.declared.matching.Likeness.TheVariants.{Equal, Prefix
 use Rattle.mud_rules.specs.declared.matching.Match.{Match}
 use Rattle.mud_rules.specs.declared.matching.Match.TheVariants.{Nothing, NoSuch, Ambiguous}
 
--- the text is the name, or a beginning of it, ASCII case ignored
+-- the text is the name, or a prefix of it, ignoring ASCII case
 abbrev pub is_like : Likeness → List ℕ → List ℕ → Bool
 is_like Equal text name = str_eq_ignore_ascii_case text name
 is_like Prefix text name = str_eq_ignore_ascii_case text (take (length text) name)
 
 -- ---- candidates
 
--- one found is the answer, several are ambiguous
+-- one object found is the answer, and several are ambiguous
 abbrev pub sole : List ℕ → Result ℕ Match
 sole [] = Err NoSuch
 sole (n ∷ []) = Ok n
 sole (n ∷ m ∷ ns) = Err Ambiguous
 
--- the one candidate with a name that is like the text
+-- the single candidate with a name that is like the text
 abbrev pub sole_like : Likeness → State → List ℕ → List ℕ → Result ℕ Match
 sole_like likeness w text candidates =
     sole (filter (λ n. has w n (λ r. list_any (is_like likeness text) r.names)) candidates)
 
--- the first answer, or the second where the first finds none
+-- the first answer, or the second if the first finds none
 abbrev pub or_else : Result ℕ Match → Result ℕ Match → Result ℕ Match
 or_else (Err NoSuch) second = second
 or_else first second = first
 
 -- ---- numbers
 
--- the number that a text of decimal digits alone writes, after those of `start`
+-- the number that a text of decimal digits denotes, after the digits of `start`
 abbrev pub digits_value : ℕ → List ℕ → Option ℕ
 digits_value start text =
     if list_all is_ascii_digit text then Some (fold (λ value digit. value * 10 + (digit - ZERO)) start text) else None
@@ -56,7 +56,8 @@ object_number (c ∷ digits) = if nat_eq c SHARP then number_in digits else None
 
 -- ---- texts
 
--- the object that a text means: `#n`, `me`, `here`, the sole candidate of that name, or the sole whose name begins so
+-- the object that a text means: `#n`, `me`, `here`, the single candidate with that name, or the single one whose name
+-- begins with it
 abbrev pub match_with : State → ℕ → List ℕ → List ℕ → Result ℕ Match
 match_with w player candidates text =
     if is_empty text then Err Nothing
@@ -65,13 +66,13 @@ match_with w player candidates text =
     else if str_eq_ignore_ascii_case text (codes "here") then ok_or (place_of w player) NoSuch
     else or_else (sole_like Equal w text candidates) (sole_like Prefix w text candidates))
 
--- what the player has, what lies in his room, and the exits that leave it
+-- the contents of the player, the contents of the player's room, and the exits that leave it
 abbrev pub candidates : State → ℕ → List ℕ
 candidates w player =
     contents_of w player
     ++ option_map_or (λ room. contents_of w room ++ leaving_of w room) (place_of w player) []
 
--- the object that a text means to a player, where he is
+-- the object that a text means to a player at its place
 abbrev pub local_match : State → ℕ → List ℕ → Result ℕ Match
 local_match w player text = match_with w player (candidates w player) text
 

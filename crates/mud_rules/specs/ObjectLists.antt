@@ -1,10 +1,10 @@
--- Names and lists of objects in texts, as bytes.
+-- Texts with names and lists of objects, as bytes.
 use Rattle.std.specs.Prelude.{ℕ, List, [], ◌∷◌, ◌++◌, get_or, codes, decimal}
 use Rattle.std.specs.Option.{option_map_or}
 use Rattle.std.specs.List.{join_by}
 use Rattle.mud_world.specs.State.{State, record_at}
 
--- the name that is shown: the first
+-- the shown name: the first one
 abbrev pub first_name : State → ℕ → List ℕ
 first_name w n = option_map_or (λ r. get_or r.names 0 []) (record_at w n) []
 
@@ -16,7 +16,7 @@ entry_text w n = first_name w n ++ codes " #" ++ decimal n
 abbrev pub object_list : State → List ℕ → List ℕ
 object_list w ns = join_by (entry_text w) (codes ", ") ns
 
--- a further line, where there is something to list
+-- a further line, if there is something to list
 abbrev pub listed_under : State → List ℕ → List ℕ → List ℕ
 listed_under w heading [] = []
 listed_under w heading (n ∷ ns) = codes "\n  " ++ heading ++ object_list w (n ∷ ns)

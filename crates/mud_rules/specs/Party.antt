@@ -1,15 +1,15 @@
--- Who meets: 2 to 8 players, none of them twice.
+-- Parties: 2 to 8 different players.
 use Rattle.std.specs.Prelude.{◌≢◌, ℕ, ◌≤◌, Bool, true, not, ◌&&◌, nat_eq, nat_le, List, [], ◌∷◌, length}
 use Rattle.std.specs.List.{AllPairs, list_any}
 use Rattle.mud_world.specs.declared.limits.TheConstants.{MOST_PARTY}
 
--- 2 to 8 of them, and no two are the same
+-- there are 2 to 8, and no two are equal
 pub record IsParty (party : List ℕ) : Type 0 where
   pub two : 2 ≤ length party
   pub eight : length party ≤ MOST_PARTY
   pub distinct : AllPairs (λ p q. p ≢ q) party
 
--- nobody is there twice
+-- no element occurs twice
 abbrev pub all_distinct : List ℕ → Bool
 all_distinct [] = true
 all_distinct (p ∷ ps) = not (list_any (λ q. nat_eq q p) ps) && all_distinct ps

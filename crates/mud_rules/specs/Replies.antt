@@ -1,4 +1,4 @@
--- What is said of a line that is accepted or refused, as bytes.
+-- Replies to accepted and refused lines, as bytes.
 use Rattle.std.specs.Prelude.{ℕ, ◌+◌, nat_eq, List, [], ◌++◌, codes, decimal, Option, Some, None, unwrap_or}
 use Rattle.std.specs.Prelude.{if◌then◌else◌}
 use Rattle.std.specs.Option.{option_map_or}
@@ -19,7 +19,7 @@ use Rattle.mud_world.specs.State.{State, place_of, is_number, is_thing, destinat
 
 -- ---- refusals
 
--- what is said of a refusal
+-- the reply to a refused line
 abbrev pub refusal_text : Refusal → List ℕ
 refusal_text NotUnderstood = codes "I couldn't understand that."
 refusal_text NoSuch = codes "There is no such thing."
@@ -42,25 +42,25 @@ refusal_text PartyBad = codes "That party is not allowed."
 
 -- ---- accepted changes
 
--- what is said to a player who comes in, new or not
+-- the reply to a player who comes in, new or not
 abbrev pub welcome_text : ℕ → List ℕ
 welcome_text player = codes "welcome #" ++ decimal player
 
--- the exit n, and the exit back, if there is one
+-- the exit n, and the exit back if there is one
 abbrev pub exits_text : ℕ → Doors → List ℕ
 exits_text n doors =
     option_map_or
     (λ names. codes "exit #" ++ decimal n ++ codes ", exit back #" ++ decimal (n + 1))
     doors.back (codes "exit #" ++ decimal n)
 
--- what was dug, n being the next number
+-- the reply to a dig, n being the next number
 abbrev pub dug_text : ℕ → Target → Option Doors → List ℕ
 dug_text n (New names) None = codes "room #" ++ decimal n
 dug_text n (New names) (Some doors) = codes "room #" ++ decimal n ++ codes ", " ++ exits_text (n + 1) doors
 dug_text n (Old room) None = []
 dug_text n (Old room) (Some doors) = exits_text n doors
 
--- to himself, to his room, to a thing, to another player
+-- a move to the player itself, to the player's room, to a thing, or to another player
 abbrev pub move_text : State → ℕ → ℕ → ℕ → List ℕ
 move_text w actor thing to =
     if nat_eq to actor then codes "taken #" ++ decimal thing
@@ -83,6 +83,6 @@ deed_text w actor (Recycle object) = codes "recycled #" ++ decimal object
 deed_text w actor (Say text) = codes "said"
 deed_text w actor (Emote text) = codes "done"
 
--- what is said of an accepted change, in the world before it
+-- the reply to an accepted change, in the world before it
 abbrev pub reply_text : State → Change → List ℕ
 reply_text w e = deed_text w e.actor e.deed

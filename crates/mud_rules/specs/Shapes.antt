@@ -1,4 +1,4 @@
--- The shapes of lines: which words, texts and objects a line gives to its command, or the refusal of another shape.
+-- The shapes of lines: the words, texts and objects that a line gives to its command, or the refusal of a wrong shape.
 use Rattle.std.specs.Prelude.{ℕ, Bool, true, false, not, ◌&&◌, List, [], ◌∷◌, get_or, codes, Option, Some, Result}
 use Rattle.std.specs.Prelude.{Ok, Err, if◌then◌else◌}
 use Rattle.std.specs.List.{join_with_byte}
@@ -23,13 +23,13 @@ all_of l = join_with_byte SPACE l.args
 abbrev pub first_of : Line → List ℕ
 first_of l = get_or l.args 0 []
 
--- without a first `at` that has more after it
+-- the words without a leading `at` that has more after it
 abbrev pub looked_at : List (List ℕ) → List (List ℕ)
 looked_at (word ∷ next ∷ words) =
     if str_eq_ignore_ascii_case word (codes "at") then next ∷ words else word ∷ next ∷ words
 looked_at words = words
 
--- ---- texts round a preposition
+-- ---- texts around a preposition
 
 abbrev pub is_prep : Prep → Option Prep → Bool
 is_prep With (Some With) = true
@@ -38,15 +38,15 @@ is_prep In (Some In) = true
 is_prep Is (Some Is) = true
 is_prep p q = false
 
--- two texts of some byte, with this between them
+-- non-empty texts before and after this preposition
 abbrev pub is_pair : Prep → Line → Bool
 is_pair prep l = is_prep prep l.prep && (not (is_empty l.direct) && not (is_empty l.indirect))
 
--- a text of some byte after this, and none before it
+-- a non-empty text after this preposition, and none before it
 abbrev pub is_aimed : Prep → Line → Bool
 is_aimed prep l = is_prep prep l.prep && (is_empty l.direct && not (is_empty l.indirect))
 
--- ---- what a line gives
+-- ---- the arguments of a line
 
 -- the text after the verb
 abbrev pub text_behind : Line → Result (List ℕ) Refusal
@@ -56,11 +56,11 @@ text_behind l = if is_empty (all_of l) then Err NotUnderstood else Ok (all_of l)
 abbrev pub object_named : State → ℕ → List ℕ → Result ℕ Refusal
 object_named w p text = if is_empty text then Err NotUnderstood else object_meant NoSuch (local_match w p text)
 
--- the object before this, of two texts with this between them
+-- the object before this preposition, if there are texts on both sides of it
 abbrev pub object_before : Prep → State → ℕ → Line → Result ℕ Refusal
 object_before prep w p l = if is_pair prep l then object_meant NoSuch (local_match w p l.direct) else Err NotUnderstood
 
--- the objects round this
+-- the objects before and after this preposition
 abbrev pub objects_round : Prep → State → ℕ → Line → Result (ℕ × ℕ) Refusal
 objects_round prep w p l =
     if is_pair prep l

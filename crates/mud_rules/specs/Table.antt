@@ -44,23 +44,23 @@ verbs =
     ∷ (codes "route", verb.Route) ∷ (codes "meet", verb.Meet) ∷ (codes "proof", verb.Proof)
     ∷ (codes "@version", verb.Version) ∷ (codes "@history", verb.History) ∷ (codes "quit", verb.Quit) ∷ []
 
--- the verb that a word is, ASCII case ignored
+-- the verb that a word names, ignoring ASCII case
 unfoldable pub verb_named : List ℕ → Option Verb
 verb_named text = lookup (str_eq_ignore_ascii_case text) verbs
 
 -- ---- the table
 
--- connect NAME, of a player or of a guest: the player who has that name, else a new one
+-- connect NAME, of a player or of a guest: become the player with that name, or else make a new one
 abbrev pub connect_line : State → Line → Verdict
 connect_line w l = if_shaped (not (is_empty (first_of l))) (connect w (first_of l))
 
--- the journey of a line of that verb: `route to R`, with no text before it, or `meet P, P and so on`
+-- the journey of a line with this verb: `route to R`, with no text before it, or `meet P, P and so on`
 abbrev pub journey_of : State → ℕ → Line → Option Verb → Result Journey Refusal
 journey_of w p l (Some verb.Route) = if is_aimed To l then route w p l.indirect else Err NotUnderstood
 journey_of w p l (Some verb.Meet) = if is_empty (all_of l) then Err NotUnderstood else meet w p (all_of l)
 journey_of w p l other = Err NotUnderstood
 
--- what a line with a verb means to player p; without a preposition a room is dug, else exits
+-- the verdict for a line of player p with a verb; a dig without a preposition has no exits
 abbrev pub command : State → ℕ → Line → Verb → Verdict
 command w p l verb.Connect = connect_line w l
 command w p l verb.Look =
@@ -93,20 +93,20 @@ command w p l verb.Version = if_shaped (is_empty l.args) (Ask (query.View Versio
 command w p l verb.History = if_shaped (is_empty l.args) (Ask query.History)
 command w p l verb.Quit = if_shaped (is_empty l.args) (Ask (query.View Quit))
 
--- any other line: the sole exit of the player's room that has the words of the whole line as a name
+-- any other line: the single exit of the player's room that has the words of the whole line as a name
 abbrev pub other_line : State → ℕ → Line → Verdict
 other_line w p l =
     let exits = option_map_or (leaving_of w) (place_of w p) [] in
     on_found (object_meant NotUnderstood (sole_like Equal w (join_with_byte SPACE (l.verb ∷ l.args)) exits))
     (λ x. does w p None (Walk x))
 
--- a guest, who is no player, has only `connect` and `quit`
+-- a guest, who is not a player, has only `connect` and `quit`
 abbrev pub guest : State → Line → Option Verb → Verdict
 guest w l (Some verb.Connect) = connect_line w l
 guest w l (Some verb.Quit) = if_shaped (is_empty l.args) (Ask (query.View Quit))
 guest w l other = Refused NotUnderstood
 
--- what a line means to a player, or to a guest
+-- the verdict for a line of a player or of a guest
 unfoldable pub decision : State → Option ℕ → Line → Verdict
 decision w None l = guest w l (verb_named l.verb)
 decision w (Some p) l = option_map_or (command w p l) (verb_named l.verb) (other_line w p l)
@@ -130,6 +130,6 @@ asks other = false
 abbrev pub is_question : Line → Bool
 is_question l = option_map_or asks (verb_named l.verb) false
 
--- the line is `quit`, with no words after
+-- the line is `quit` without more words
 abbrev pub is_quit : Line → Bool
 is_quit l = is_empty l.args && str_eq_ignore_ascii_case l.verb (codes "quit")

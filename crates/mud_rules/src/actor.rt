@@ -1,15 +1,14 @@
-//! Who gives a line, in which world, and what bars him there.
+//! The player who gives a line, the world, and the refusals that apply before a text is read.
 
 ghost use Rattle.std.specs.Prelude.{◌≡◌};
 ghost use Rattle.mud_rules.specs.Outcome.{does};
 ghost use Rattle.mud_rules.specs.inner.Bars.{no_player, no_room, not_his};
 
 use crate::Verdict;
-use crate::outcome::outcome;
-use mud_world::{Change, Deed, Refusal, Target, World};
+use mud_world::{Change, Deed, Refusal, Target, World, lesser};
 use std::alloc::Global;
 
-// A player of a world, and where memory comes from. The commands are his methods, a verb each.
+// A player in a world, and the allocator. Each command is a method of it.
 #[derive(Clone, Copy)]
 pub(crate) struct Actor<'a> {
     pub(crate) alloc: Global,
@@ -18,21 +17,21 @@ pub(crate) struct Actor<'a> {
 }
 
 impl Actor<'_> {
-    // What he does, or the least refusal: the command's own, or that of the change.
+    // Returns the change of this deed, or the least refusal: the command's own, or the change's.
     pub(crate) fn does(&self, own: Option<Refusal>, deed: Deed) -> Verdict
         ensures { result ≡ does self.now.world.now self.now.player own deed }
     {
-        outcome(
-            self.world,
-            own,
-            Change {
-                actor: self.player,
-                deed,
-            },
-        )
+        let change = Change {
+            actor: self.player,
+            deed,
+        };
+        match lesser(own, self.world.legal(&change).err()) {
+            Some(refusal) => Verdict::Refused(refusal),
+            None => Verdict::Change(change),
+        }
     }
 
-    // What bars him whatever he does.
+    // Returns the refusal of an actor who is not a player.
     pub(crate) fn no_player(&self) -> Option<Refusal>
         ensures { result ≡ no_player self.now.world.now self.now.player }
     {
@@ -45,7 +44,7 @@ impl Actor<'_> {
         }
     }
 
-    // What bars him from digging to an old room.
+    // Returns the refusal that stops a dig to an existing room before any text is read.
     pub(crate) fn no_room(&self, target: &Target) -> Option<Refusal>
         ensures { result ≡ no_room self.now.world.now self.now.player target.now }
     {
@@ -63,7 +62,7 @@ impl Actor<'_> {
         }
     }
 
-    // What bars him from a change of an object.
+    // Returns the refusal that stops a change of an object before any text is read.
     pub(crate) fn not_his(&self, object: u32, wrong_kind: bool) -> Option<Refusal>
         ensures { result ≡ not_his self.now.world.now self.now.player object wrong_kind }
     {

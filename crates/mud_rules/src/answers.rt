@@ -1,4 +1,4 @@
-//! What is shown of a world.
+//! Answers questions about the world.
 
 ghost use Rattle.std.specs.Prelude.{◌≡◌, ◌++◌, [], Some, not, codes, filter, IfOk, OnOk, string_bytes};
 ghost use Rattle.std.specs.Option.{option_map_or};
@@ -13,11 +13,11 @@ use mud_key::print;
 use mud_world::{Kind, World};
 use std::alloc::{AllocError, Global};
 
-// Room for what most objects look like.
+// The capacity for the description of most objects.
 const LOOK: usize = 240;
 
-/// What a player is shown of a world, its lines joined by LF (docs/COMMANDS.md, "What is answered"). Without
-/// a player there is no room to look at and nothing in hand: these two answers are empty then.
+/// Returns the answer to a view of the world; LF separates its lines (docs/COMMANDS.md, "Answers"). Without a
+/// player, the answers about the player's room and inventory are empty.
 pub fn show(
     alloc: Global,
     world: &World,
@@ -37,7 +37,7 @@ pub fn show(
     }
 }
 
-// The exits that leave a room, on a line of their own.
+// Appends the exits that leave a room, on a line of their own.
 fn push_exits(text: &mut String, world: &World, room: u32) -> Result<(), AllocError>
     ensures { OnOk result (string_bytes text.new
         ≡ string_bytes text.old ++ listed_under world.now (codes "exits ") (leaving_of world.now room)) }
@@ -45,7 +45,7 @@ fn push_exits(text: &mut String, world: &World, room: u32) -> Result<(), AllocEr
     push_listed(text, world, "\n  exits ", world.leaving(room), None)
 }
 
-// What lies in an object but for the player, on a line of its own.
+// Appends the contents of an object without the player, on a line of their own.
 fn push_contents(
     text: &mut String,
     world: &World,
@@ -58,7 +58,7 @@ fn push_contents(
     push_listed(text, world, "\n  contents ", world.contents(number), player)
 }
 
-// The objects of a list.
+// Appends the objects of a list.
 fn push_all(text: &mut String, world: &World, numbers: &[u32]) -> Result<(), AllocError>
     ensures { OnOk result (string_bytes text.new
         ≡ string_bytes text.old ++ object_list world.now numbers.now) }
@@ -98,7 +98,7 @@ fn look_text(
     Ok(text)
 }
 
-// The room that a player is in.
+// Returns the description of the player's room.
 fn room_text(alloc: Global, world: &World, player: u32) -> Result<String, AllocError>
     ensures { IfOk result (λ text. string_bytes text
         ≡ option_map_or (look_text world.now (Some player)) (place_of world.now player) []) }
@@ -109,7 +109,7 @@ fn room_text(alloc: Global, world: &World, player: u32) -> Result<String, AllocE
     }
 }
 
-// What a player has, directly.
+// Returns the inventory of a player: the objects that lie directly in the player.
 fn inventory_text(alloc: Global, world: &World, player: u32) -> Result<String, AllocError>
     ensures { IfOk result (λ text. string_bytes text ≡ inventory_text world.now player) }
 {

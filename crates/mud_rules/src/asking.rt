@@ -83,7 +83,7 @@ impl Actor<'_> {
         Ok(if_shaped(parsed.args.is_empty(), Query::View(View::Quit)))
     }
 
-    // The journey that a line asks for.
+    // Returns the journey that a line asks for.
     fn journey_meant(&self, parsed: &Parsed) -> Result<Result<Journey, Refusal>, AllocError>
         ensures { IfOk result (λ journey. journey
             ≡ journey_of self.now.world.now self.now.player (line_of parsed.now)

@@ -33,7 +33,7 @@ impl Actor<'_> {
         }
     }
 
-    // A room without exits.
+    // Digs a room without exits.
     fn dig_alone(&self, parsed: &Parsed) -> Result<Verdict, AllocError>
         ensures { IfOk result (λ v. v
             ≡ on_found (text_behind (line_of parsed.now)) (dig_room self.now.world.now self.now.player)) }

@@ -1,11 +1,11 @@
-//! How two texts are compared.
+//! Compares texts.
 
 ghost use Rattle.std.specs.Prelude.{◌≡◌, nat_eq};
 ghost use Rattle.std.specs.Char.{to_ascii_lowercase};
 ghost use Rattle.std.specs.Str.{str_eq_ignore_ascii_case};
 
-// Whether two texts are the same but for the case of ASCII letters. All bytes are looked at,
-// whatever differs: so a compiler can take many at once.
+// Returns whether two texts are equal, ignoring ASCII case. It compares all bytes without an early exit, so that a
+// compiler can vectorize the loop.
 pub(crate) fn is_same(text: &[u8], name: &[u8]) -> bool
     ensures { result ≡ str_eq_ignore_ascii_case text.now name.now }
 {
@@ -19,15 +19,15 @@ pub(crate) fn is_same(text: &[u8], name: &[u8]) -> bool
     same
 }
 
-// Whether two letters are the same but for their case. Most are equal as they stand, since a line's verb
-// comes in lower case, as the words of the table are.
+// Returns whether two letters are equal, ignoring case. Most are equal as they are, because the verb of a line and the
+// words of the table are in lower case.
 fn is_letter(letter: u8, other: u8) -> bool
     ensures { result ≡ nat_eq (to_ascii_lowercase letter) (to_ascii_lowercase other) }
 {
     letter == other || letter.eq_ignore_ascii_case(&other)
 }
 
-// Whether a text is this word, ASCII case ignored.
+// Returns whether a text is this word, ignoring ASCII case.
 pub(crate) fn is_word(text: &str, word: &str) -> bool
     ensures { result ≡ str_eq_ignore_ascii_case text.now word.now }
 {

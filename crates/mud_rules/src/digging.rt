@@ -1,4 +1,4 @@
-//! Where exits lead that are to be dug.
+//! The exits and rooms that a dig command names.
 
 ghost use Rattle.std.specs.Prelude.{◌≡◌, IfOk};
 ghost use Rattle.mud_rules.specs.Commands.{doors_in, target_in, has_empty_side};
@@ -8,10 +8,10 @@ use crate::naming::names_in;
 use mud_world::{Doors, Target};
 use std::alloc::{AllocError, Global};
 
-/// What stands between the names of an exit and those of the exit back (docs/COMMANDS.md, "The commands").
+/// The separator between the names of an exit and those of the exit back (docs/COMMANDS.md, "The commands").
 const BAR: u8 = b'|';
 
-// The exits that a text names.
+// Returns the exits that a text names.
 pub(crate) fn doors_in(alloc: Global, text: &str) -> Result<Option<Doors>, AllocError>
     ensures { IfOk result (λ doors. doors ≡ doors_in text.now) }
 {
@@ -34,7 +34,7 @@ pub(crate) fn doors_in(alloc: Global, text: &str) -> Result<Option<Doors>, Alloc
     }
 }
 
-// The old room that a text means, or the names of a new one.
+// Returns the existing room that a text means, or the names of a new one.
 pub(crate) fn target_in(alloc: Global, text: &str) -> Result<Option<Target>, AllocError>
     ensures { IfOk result (λ target. target ≡ target_in text.now) }
 {
@@ -47,7 +47,7 @@ pub(crate) fn target_in(alloc: Global, text: &str) -> Result<Option<Target>, All
     }
 }
 
-// Whether a side of a bar is empty.
+// Returns whether the text on one side of a bar is empty.
 pub(crate) fn has_empty_side(text: &str) -> bool
     ensures { result ≡ has_empty_side text.now }
 {

@@ -1,4 +1,4 @@
-//! What a line gives to its command: a text, an object or two; or the refusal of its shape.
+//! The arguments that a line gives to its command: a text, or one or two objects, or the refusal of a wrong shape.
 
 ghost use Rattle.std.specs.Prelude.{◌≡◌, IfOk};
 ghost use Rattle.std.specs.Cow.{cow_str_bytes};
@@ -16,7 +16,7 @@ use std::alloc::{AllocError, Global};
 use std::borrow::CowStr;
 
 impl Actor<'_> {
-    // The text after the verb.
+    // Returns the text after the verb.
     pub(crate) fn text_behind<'a>(
         &self,
         parsed: &'a Parsed,
@@ -32,7 +32,7 @@ impl Actor<'_> {
         }
     }
 
-    // The object that a text means.
+    // Returns the object that a text means.
     pub(crate) fn object_named(&self, text: &str) -> Result<u32, Refusal>
         ensures { result ≡ object_named self.now.world.now self.now.player text.now }
     {
@@ -43,7 +43,7 @@ impl Actor<'_> {
         }
     }
 
-    // The object that the text after the verb means.
+    // Returns the object that the text after the verb means.
     pub(crate) fn object_behind(&self, parsed: &Parsed) -> Result<Result<u32, Refusal>, AllocError>
         ensures { IfOk result (λ object. object
             ≡ object_named self.now.world.now self.now.player (all_of (line_of parsed.now))) }
@@ -52,7 +52,7 @@ impl Actor<'_> {
         Ok(self.object_named(&text))
     }
 
-    // The object before a preposition, of two texts with it between them.
+    // Returns the object before a preposition, if there are texts on both sides of it.
     pub(crate) fn object_before(&self, prep: Prep, parsed: &Parsed) -> Result<u32, Refusal>
         ensures { result ≡ object_before prep self.now.world.now self.now.player (line_of parsed.now) }
     {
@@ -63,7 +63,7 @@ impl Actor<'_> {
         }
     }
 
-    // The objects round a preposition.
+    // Returns the objects before and after a preposition.
     pub(crate) fn objects_round(&self, prep: Prep, parsed: &Parsed) -> Result<(u32, u32), Refusal>
         ensures { result ≡ objects_round prep self.now.world.now self.now.player (line_of parsed.now) }
     {

@@ -1,10 +1,9 @@
-//! What a player hears of the changes of others.
+//! Notices: the lines by which players hear of the changes of others.
 
-ghost use Rattle.std.specs.Prelude.{◌≡◌, ◌++◌, Some, IfOk, codes, false, string_bytes};
+ghost use Rattle.std.specs.Prelude.{◌≡◌, ◌++◌, IfOk, codes, false, string_bytes};
 ghost use Rattle.std.specs.Option.{option_map, option_map_or};
-ghost use Rattle.mud_world.specs.State.{is_number, place_of};
-ghost use Rattle.mud_world.specs.declared.change.Deed.TheVariants as deed;
-ghost use Rattle.mud_rules.specs.HeardLine.{heard_in, moved_line, heard_deed, heard_line};
+ghost use Rattle.mud_world.specs.State.{is_number, place_of, destination_of};
+ghost use Rattle.mud_rules.specs.HeardLine.{moved_line, heard_line};
 ghost use Rattle.mud_rules.specs.ObjectLists.{first_name};
 
 use crate::listing::first_name;
@@ -12,8 +11,15 @@ use crate::moving::together;
 use mud_world::{Change, Deed, World};
 use std::alloc::{AllocError, Global};
 
-/// The line that a player is told of another's change, the world being the one before it; none
-/// where he hears nothing of it, and none of his own (docs/COMMANDS.md, "What others hear").
+// Returns the line if it is heard, and `None` otherwise.
+macro_rules! if_heard {
+    ($heard:expr, $line:expr) => {
+        if $heard { Ok(Some($line?)) } else { Ok(None) }
+    };
+}
+
+/// Returns the notice that a player gets of another's change, given the world before it. A player gets no notice of a
+/// change out of hearing, and none of its own changes (docs/COMMANDS.md, "What others hear").
 pub fn heard(
     alloc: Global,
     world: &World,
@@ -23,34 +29,35 @@ pub fn heard(
     ensures { IfOk result (λ line. option_map string_bytes line
         ≡ heard_line world.now change.now player) }
 {
-    if player == change.actor {
-        Ok(None)
-    } else {
-        heard_deed(alloc, world, change.actor, &change.deed, player)
+    let actor = change.actor;
+    if player == actor {
+        return Ok(None);
     }
-}
-
-fn heard_deed(
-    alloc: Global,
-    world: &World,
-    actor: u32,
-    deed: &Deed,
-    player: u32,
-) -> Result<Option<String>, AllocError>
-    ensures { IfOk result (λ line. option_map string_bytes line
-        ≡ heard_deed world.now player actor deed.now) }
-{
-    match deed {
-        Deed::Say(text) => heard_say(alloc, world, player, actor, text.as_str()),
-        Deed::Emote(text) => heard_emote(alloc, world, player, actor, text.as_str()),
-        Deed::Move { thing, to } => heard_move(alloc, world, player, actor, *thing, *to),
-        Deed::Walk { exit } => walked_line(alloc, world, player, actor, *exit),
-        Deed::Player(name) => heard_arrival(alloc, world, player, name.as_str()),
+    let who = first_name(world, actor);
+    let here = together(world, actor, player);
+    match &change.deed {
+        Deed::Say(text) => {
+            if_heard!(here, sentence(alloc, who, " says, \"", text.as_str(), "\""))
+        }
+        Deed::Emote(text) => if_heard!(here, sentence(alloc, who, " ", text.as_str(), "")),
+        Deed::Move { thing, to } => {
+            if_heard!(here, moved_line(alloc, world, player, actor, *thing, *to))
+        }
+        Deed::Walk { exit } if here => {
+            let line = sentence(alloc, who, " leaves by ", first_name(world, *exit), ".")?;
+            Ok(Some(line))
+        }
+        Deed::Walk { exit } => {
+            if_heard!(comes_to(world, player, *exit), arrival_line(alloc, who))
+        }
+        Deed::Player(name) => {
+            if_heard!(world.is_in(player, 0), arrival_line(alloc, name.as_str()))
+        }
         _ => Ok(None),
     }
 }
 
-// One name, words, and another name.
+// Returns a name, words, and another name.
 fn sentence(
     alloc: Global,
     who: &str,
@@ -67,7 +74,7 @@ fn sentence(
     Ok(line)
 }
 
-// A name, words, a second name, more words, a third name and a full stop.
+// Returns a name, words, a second name, more words, a third name and a full stop.
 fn said_of(
     alloc: Global,
     who: &str,
@@ -83,61 +90,6 @@ fn said_of(
     line.push_str(whom)?;
     line.push_str(".")?;
     Ok(line)
-}
-
-fn heard_say(
-    alloc: Global,
-    world: &World,
-    player: u32,
-    actor: u32,
-    text: &str,
-) -> Result<Option<String>, AllocError>
-    ensures { IfOk result (λ line. option_map string_bytes line
-        ≡ heard_deed world.now player actor (deed.Say text.now)) }
-{
-    if together(world, actor, player) {
-        let line = sentence(alloc, first_name(world, actor), " says, \"", text, "\"")?;
-        Ok(Some(line))
-    } else {
-        Ok(None)
-    }
-}
-
-fn heard_emote(
-    alloc: Global,
-    world: &World,
-    player: u32,
-    actor: u32,
-    text: &str,
-) -> Result<Option<String>, AllocError>
-    ensures { IfOk result (λ line. option_map string_bytes line
-        ≡ heard_deed world.now player actor (deed.Emote text.now)) }
-{
-    if together(world, actor, player) {
-        let line = sentence(alloc, first_name(world, actor), " ", text, "")?;
-        Ok(Some(line))
-    } else {
-        Ok(None)
-    }
-}
-
-fn heard_move(
-    alloc: Global,
-    world: &World,
-    player: u32,
-    actor: u32,
-    thing: u32,
-    to: u32,
-) -> Result<Option<String>, AllocError>
-    ensures { IfOk result (λ line. option_map string_bytes line
-        ≡ heard_deed world.now player actor (deed.Move thing to)) }
-{
-    if together(world, actor, player) {
-        let line = moved_line(alloc, world, player, actor, thing, to)?;
-        Ok(Some(line))
-    } else {
-        Ok(None)
-    }
 }
 
 fn moved_line(
@@ -165,38 +117,13 @@ fn moved_line(
     }
 }
 
-fn walked_line(
-    alloc: Global,
-    world: &World,
-    player: u32,
-    actor: u32,
-    exit: u32,
-) -> Result<Option<String>, AllocError>
-    ensures { IfOk result (λ line. option_map string_bytes line
-        ≡ heard_deed world.now player actor (deed.Walk exit)) }
+// Returns whether the player is in the room that the exit leads to.
+fn comes_to(world: &World, player: u32, exit: u32) -> bool
+    ensures { result
+        ≡ option_map_or (λ r. is_number r (place_of world.now player)) (destination_of world.now exit) false }
 {
-    let who = first_name(world, actor);
-    if together(world, actor, player) {
-        let line = sentence(alloc, who, " leaves by ", first_name(world, exit), ".")?;
-        return Ok(Some(line));
-    }
-    let to = match world.passage(exit) {
-        Some(passage) => Some(passage.destination),
-        None => None,
-    };
-    if stands_in(world, player, to) {
-        let line = arrival_line(alloc, who)?;
-        Ok(Some(line))
-    } else {
-        Ok(None)
-    }
-}
-
-fn stands_in(world: &World, player: u32, room: Option<u32>) -> bool
-    ensures { result ≡ option_map_or (λ r. is_number r (place_of world.now player)) room false }
-{
-    match room {
-        Some(room) => world.is_in(player, room),
+    match world.passage(exit) {
+        Some(passage) => world.is_in(player, passage.destination),
         None => false,
     }
 }
@@ -205,22 +132,4 @@ fn arrival_line(alloc: Global, name: &str) -> Result<String, AllocError>
     ensures { IfOk result (λ line. string_bytes line ≡ name.now ++ codes " arrives.") }
 {
     format!(in alloc; "{name} arrives.")
-}
-
-// A new player comes into the hall.
-fn heard_arrival(
-    alloc: Global,
-    world: &World,
-    player: u32,
-    name: &str,
-) -> Result<Option<String>, AllocError>
-    ensures { IfOk result (λ line. option_map string_bytes line
-        ≡ heard_in world.now player (Some 0) (name.now ++ codes " arrives.")) }
-{
-    if stands_in(world, player, Some(0)) {
-        let line = arrival_line(alloc, name)?;
-        Ok(Some(line))
-    } else {
-        Ok(None)
-    }
 }

@@ -19,7 +19,7 @@ use mud_world::{Refusal, lesser, refused_if};
 use std::alloc::{AllocError, Global};
 
 impl Actor<'_> {
-    // The room that a text means.
+    // Returns the room that a text means.
     fn room_meant(&self, text: &str) -> Result<u32, Refusal>
         ensures { result ≡ of_kind (is_room self.now.world.now)
             (object_meant Refusal.NoSuch
@@ -31,7 +31,7 @@ impl Actor<'_> {
         }
     }
 
-    // The way to the room that a text means.
+    // Returns the journey to the room that a text means.
     pub(crate) fn route_to(&self, text: &str) -> Result<Journey, Refusal>
         ensures { result ≡ route self.now.world.now self.now.player text.now }
     {
@@ -39,7 +39,7 @@ impl Actor<'_> {
         Ok(Journey::Route { to })
     }
 
-    // The player that a text means.
+    // Returns the player that a text means.
     fn player_meant(&self, text: &str) -> Result<u32, Refusal>
         ensures { result ≡ player_meant self.now.world.now self.now.player text.now }
     {
@@ -49,7 +49,7 @@ impl Actor<'_> {
         }
     }
 
-    // The players that the parts of a text mean.
+    // Returns the players that the parts of a text mean.
     fn players_meant(&self, text: &str) -> Result<Vec<Result<u32, Refusal>>, AllocError>
         ensures { IfOk result (λ found. found.items
             ≡ map (player_meant self.now.world.now self.now.player) (parts_of text.now)) }
@@ -62,7 +62,7 @@ impl Actor<'_> {
         Ok(found)
     }
 
-    // The meeting of those whom the parts of a text mean.
+    // Returns the meeting of the players that the parts of a text mean.
     pub(crate) fn meeting_of(&self, text: &str) -> Result<Result<Journey, Refusal>, AllocError>
         ensures { IfOk result (λ journey. journey ≡ meet self.now.world.now self.now.player text.now) }
     {
@@ -71,7 +71,7 @@ impl Actor<'_> {
     }
 }
 
-// Those who were found.
+// Returns the players that were found.
 fn members(alloc: Global, found: &[Result<u32, Refusal>]) -> Result<Vec<u32>, AllocError>
     ensures { IfOk result (λ party. party.items ≡ members found.now) }
 {
@@ -84,7 +84,7 @@ fn members(alloc: Global, found: &[Result<u32, Refusal>]) -> Result<Vec<u32>, Al
     Ok(party)
 }
 
-// Of all parts the least refusal.
+// Returns the least refusal of all parts.
 fn least_refusal(found: &[Result<u32, Refusal>]) -> Option<Refusal>
     ensures { result ≡ least_refusal found.now }
 {
@@ -109,14 +109,14 @@ fn all_distinct(party: &[u32]) -> bool
     true
 }
 
-// Whether it is 2 to 8, and nobody twice.
+// Returns whether there are 2 to 8 players, and none occurs twice.
 fn is_party(party: &[u32]) -> bool
     ensures { result ≡ is_party party.now }
 {
     2 <= party.len() && party.len() <= MOST_PARTY && all_distinct(party)
 }
 
-// The refusal of those who are no party.
+// Returns the refusal of a list that is not a party.
 fn unfit(party: &[u32]) -> Option<Refusal>
     ensures { result ≡ unfit party.now }
 {

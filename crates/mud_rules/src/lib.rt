@@ -1,15 +1,14 @@
-//! What a line means in a world: the table of commands, which object a text means, and the texts
-//! of all answers (docs/COMMANDS.md).
+//! The meaning of a line in a world: the table of commands, matching of objects, and the texts of all replies
+//! (docs/COMMANDS.md).
 //!
-//! - [`decide`] takes a parsed line of a player, or of a guest, and gives its [`Verdict`]: a change
-//!   that is legal, a question, a player to become, or the refusal of least number.
+//! - [`decide`] takes a parsed line of a player or of a guest, and returns its [`Verdict`]: a legal change, a question,
+//!   a player to become, or the refusal with the least number.
 //! - [`local_match`], [`room_match`] and [`player_match`] find the object that a text means.
-//! - [`is_question`] tells the lines that change nothing, [`is_quit`] the one that ends a session.
-//! - [`reply_text`], [`welcome_text`], [`refusal_text`] and [`show`] give what the player is told,
-//!   [`heard`] what another player is told of his change. A [`Journey`] and the history are asked
-//!   for here, and answered elsewhere.
+//! - [`is_question`] recognizes the lines that change nothing, and [`is_quit`] the line that ends a session.
+//! - [`reply_text`], [`welcome_text`], [`refusal_text`] and [`show`] return the replies to a player, and [`heard`] the
+//!   notice to another player. A [`Journey`] and the history are requested here, and answered elsewhere.
 //!
-//! Nothing here changes a world: who has a verdict does that by `World::apply`.
+//! Nothing here changes a world; the caller applies a change by `World::apply`.
 //!
 //! ```
 //! let world = World::opening(alloc)?;
@@ -23,17 +22,19 @@
 //! }
 //! ```
 //!
-//! Proved: the verdict is exactly that of the table in `specs/Table.antt`, with the commands of
-//! `Commands.antt` and `Journeys.antt` and the matching of `Matches.antt`. The tests of a command
-//! and the conditions of its change are one list of refusals, tried by rising number
-//! (`Outcome.antt`), and so are the refusals of a meeting. A change in a verdict is legal and of the
-//! player who typed the line, a room that is asked for is one of the world, and those who are to
-//! meet are a [`Party`] of its players. All texts are exactly those of `Replies.antt`,
-//! `Answers.antt` and `HeardLine.antt`. Want of memory is the one error. The functions of [`laws`]
-//! prove what the table comes to: a line whose text can't be read is refused as it would be
-//! whatever the text were read as; in a sound world a change that a line comes to is legal, and its
-//! names, keys and texts are such; what a line asks is asked by the verb of a question, in every
-//! world and whoever typed it.
+//! Proved:
+//!
+//! - The verdict is exactly that of the table in `specs/Table.antt`, with the commands of `Commands.antt` and
+//!   `Journeys.antt` and the matching of `Matches.antt`.
+//! - The tests of a command and the conditions of its change are one list of refusals, tried in rising order
+//!   (`Outcome.antt`). So are the refusals of a meeting.
+//! - A change in a verdict is legal, and its actor is the player who typed the line. A room in a question is one of the
+//!   world, and a meeting is of a [`Party`] of its players.
+//! - All texts are exactly those of `Replies.antt`, `Answers.antt` and `HeardLine.antt`.
+//! - The only error is out of memory.
+//! - The laws of [`laws`] hold. A line with an unreadable text is refused as it would be for any readable text. In a
+//!   sound world the change of a line is legal, and its names, keys and texts are valid. Only a line with the verb of a
+//!   question asks.
 #![tactic(auto)]
 
 mod actor;

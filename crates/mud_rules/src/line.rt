@@ -1,4 +1,4 @@
-//! What a line means to a player, or to a guest.
+//! Decides a line of a player or of a guest.
 
 ghost use Rattle.std.specs.Prelude.{◌≡◌, Option, Some, IfOk};
 ghost use Rattle.mud_words.specs.Line.{line_of};
@@ -17,28 +17,27 @@ use mud_words::Parsed;
 use mud_world::{Refusal, World};
 use std::alloc::{AllocError, Global};
 
-/// Whether a line has the verb of a question, whatever its other words are (docs/COMMANDS.md,
-/// "Questions").
+/// Returns whether a line has the verb of a question; its other words do not matter (docs/COMMANDS.md, "Questions").
 pub fn is_question(parsed: &Parsed) -> bool
     ensures { result ≡ is_question (line_of parsed.now) }
 {
     Verb::asks(&parsed.verb)
 }
 
-/// Whether a line is `quit`, with no words after: its answer is the last of a session.
+/// Returns whether a line is `quit` without more words. Its answer is the last one of a session.
 pub fn is_quit(parsed: &Parsed) -> bool
     ensures { result ≡ is_quit (line_of parsed.now) }
 {
     parsed.args.is_empty() && is_word(&parsed.verb, "quit")
 }
 
-/// What a line asks for in a world: a change that is legal there, a question, a player to become,
-/// or the refusal of least number (docs/COMMANDS.md). A room in a question is one of that world,
-/// and a party is of its players. Without a player it is the line of a guest, who has only
-/// `connect` and `quit`.
+/// Decides a line in a world: a legal change, a question, a player to become, or the refusal with the least number
+/// (docs/COMMANDS.md). A room in a question is one of that world, and a party consists of its players. Without a
+/// player, the line is a guest's, who has only `connect` and `quit`.
 ///
-/// A given player is to be one of that world; the line of any other number is decided too, by the
-/// same table. The one error is out of memory.
+/// A given player should be one of that world. The table also decides a line for any other number. The only error is
+/// out of memory.
+#[tactic(auto, unfolding(crate::specs::Table::decision))]
 pub fn decide(
     alloc: Global,
     world: &World,
@@ -48,20 +47,8 @@ pub fn decide(
     ensures decision { IfOk result (λ v. v ≡ decision world.now player (line_of parsed.now)) }
     ensures lawful { IfOk result (IsLawful world.now player) }
 {
-    // for the prover: `next_number` says that the world is sound
+    // for the prover: `next_number` shows that the world is sound
     let _known = world.next_number();
-    decision(alloc, world, player, parsed)
-}
-
-#[tactic(auto, unfolding(crate::specs::Table::decision))]
-fn decision(
-    alloc: Global,
-    world: &World,
-    player: Option<u32>,
-    parsed: &Parsed,
-) -> Result<Verdict, AllocError>
-    ensures { IfOk result (λ v. v ≡ decision world.now player (line_of parsed.now)) }
-{
     let verb = Verb::of_word(&parsed.verb);
     let Some(player) = player else {
         return guest(alloc, world, parsed, verb);
@@ -78,7 +65,7 @@ fn decision(
 }
 
 impl Actor<'_> {
-    // only `decision` calls it, and a verdict is dear to hand on
+    // only `decide` calls it, and moving a verdict is expensive
     #[inline(always)]
     fn command(&self, parsed: &Parsed, verb: Verb) -> Result<Verdict, AllocError>
         ensures { IfOk result (λ v. v ≡ command self.now.world.now self.now.player (line_of parsed.now) verb) }
@@ -111,7 +98,7 @@ impl Actor<'_> {
         }
     }
 
-    // Any other line: an exit of the player's room that has the whole line as a name.
+    // Decides any other line: it may name an exit of the player's room.
     fn other_line(&self, parsed: &Parsed) -> Result<Verdict, AllocError>
         ensures { IfOk result (λ v. v ≡ other_line self.now.world.now self.now.player (line_of parsed.now)) }
     {

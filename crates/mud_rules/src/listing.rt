@@ -1,4 +1,4 @@
-//! Names and lists of objects in texts.
+//! Texts with names and lists of objects.
 
 ghost use Rattle.std.specs.Prelude.{◌≡◌, ◌++◌, ◌∷◌, [], ◌+◌, ◌<◌, OnOk, codes, decimal, filter, not, string_bytes};
 ghost use Rattle.std.specs.Prelude.{if◌then◌else◌};
@@ -10,7 +10,7 @@ ghost use Rattle.mud_rules.specs.inner.ObjectLists.{listed_after};
 use mud_world::World;
 use std::alloc::AllocError;
 
-// A digit.
+// Appends a digit.
 fn push_digit(text: &mut String, digit: u32) -> Result<(), AllocError>
     requires { digit < 10 }
     ensures { OnOk result (string_bytes text.new ≡ string_bytes text.old ++ (ZERO + digit) ∷ []) }
@@ -18,7 +18,7 @@ fn push_digit(text: &mut String, digit: u32) -> Result<(), AllocError>
     text.push((b'0' + digit as u8) as char)
 }
 
-// A number in digits: most have few, each of which is sooner there than a text of them.
+// Appends a number in decimal. Most numbers have few digits, and pushing each is faster than formatting a text.
 #[tactic(auto, using(std::proofs::lemmas::Fmt::decimal_digit, std::proofs::lemmas::Fmt::decimal_step))]
 fn push_number(text: &mut String, number: u32) -> Result<(), AllocError>
     ensures { OnOk result (string_bytes text.new ≡ string_bytes text.old ++ decimal number) }
@@ -30,7 +30,7 @@ fn push_number(text: &mut String, number: u32) -> Result<(), AllocError>
     push_digit(text, number % 10)
 }
 
-// Words, and a number in digits.
+// Appends words and a decimal number.
 pub(crate) fn push_about(text: &mut String, words: &str, number: u32) -> Result<(), AllocError>
     ensures { OnOk result (string_bytes text.new ≡ string_bytes text.old ++ words.now ++ decimal number) }
 {
@@ -38,7 +38,7 @@ pub(crate) fn push_about(text: &mut String, words: &str, number: u32) -> Result<
     push_number(text, number)
 }
 
-// The name that is shown.
+// Returns the shown name.
 #[inline(always)]
 pub(crate) fn first_name(world: &World, number: u32) -> &str
     ensures { result.now ≡ first_name world.now number }
@@ -52,7 +52,7 @@ pub(crate) fn first_name(world: &World, number: u32) -> &str
     }
 }
 
-// NAME #n. Each object of a list comes here.
+// Appends NAME #n. It runs for each object of a list.
 #[inline(always)]
 pub(crate) fn push_entry(text: &mut String, world: &World, number: u32) -> Result<(), AllocError>
     ensures { OnOk result (string_bytes text.new
@@ -73,7 +73,7 @@ fn is_player(number: u32, player: Option<u32>) -> bool
     }
 }
 
-// What stands before an object of a list: the heading before the first, a comma before any other.
+// Appends the text before an object of a list: the heading before the first, and a comma before the others.
 fn push_lead(text: &mut String, heading: &str, is_first: bool) -> Result<(), AllocError>
     ensures { OnOk result (string_bytes text.new
         ≡ string_bytes text.old ++ (if is_first then heading.now else codes ", ")) }
@@ -85,7 +85,7 @@ fn push_lead(text: &mut String, heading: &str, is_first: bool) -> Result<(), All
     text.push(' ')
 }
 
-// The objects of a list but for the player, after a heading, where there is one to list.
+// Appends the objects of a list without the player, after a heading. It appends nothing if there is no object to list.
 pub(crate) fn push_listed(
     text: &mut String,
     world: &World,

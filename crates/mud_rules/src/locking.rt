@@ -1,4 +1,4 @@
-//! The commands that lock.
+//! The commands that set and remove keys.
 
 ghost use Rattle.std.specs.Prelude.{◌≡◌, ◌≤◌, Result, IfOk, if◌then◌else◌};
 ghost use Rattle.mud_key.specs.declared.limits.TheConstants.{LAST_NUMBER};
@@ -17,7 +17,7 @@ use mud_words::{Parsed, Prep};
 use mud_world::{Deed, Refusal, World};
 use std::alloc::AllocError;
 
-// The names of a key text are looked up near him. Why one means no object makes no difference to a line.
+// Resolves the names of a key text near the player. A line does not distinguish why a name means no object.
 impl Namer for Actor<'_> {
     ghost meaning = { λ actor text. near_named actor.world.now actor.player text };
 
@@ -29,12 +29,12 @@ impl Namer for Actor<'_> {
     }
 }
 
-// An object that exists.
+// Returns the object if it exists.
 fn check_object(world: &World, number: u32) -> Result<u32, Miss>
     ensures found { result ≡ (if exists world.now number then Result.Ok number else Result.Err Miss.NoSuch) }
     ensures number { IfOk result (λ n. n ≤ LAST_NUMBER) }
 {
-    // for the prover: `next_number` says that the world is sound
+    // for the prover: `next_number` shows that the world is sound
     let _known = world.next_number();
     if world.exists(number) {
         Ok(number)
@@ -64,7 +64,7 @@ impl Actor<'_> {
         }
     }
 
-    // The key that a text means to him, where it means one.
+    // Returns the key that a text means to the player, if it means one.
     fn key_meant(&self, text: &str) -> Result<Option<Key>, AllocError>
         ensures { IfOk result (λ key. key ≡ key_meant self.now.world.now self.now.player text.now) }
     {

@@ -1,4 +1,4 @@
-//! Which object a text means.
+//! Finds the object that a text means.
 
 ghost use Rattle.std.specs.Prelude.{◌≡◌, ◌&&◌, ◌≤◌, filter, length, map, string_bytes, Result, if◌then◌else◌};
 ghost use Rattle.std.specs.List.{list_any, range_with_len};
@@ -14,13 +14,13 @@ use mud_key::codes::SHARP;
 use mud_key::limits::MOST_DIGITS;
 use mud_world::World;
 
-/// Why a text means no object; the numbers -1, -3 and -2 of the LambdaMOO Programmer's Manual
-/// ("The Built-in Command Parser").
+/// The reason why a text means no object: the numbers -1, -3 and -2 of the LambdaMOO Programmer's Manual ("The Built-in
+/// Command Parser").
 #[derive(Clone, Copy, Debug, PartialEq, Eq)]
 pub enum Match {
     /// The text is empty.
     Nothing,
-    /// No candidate has such a name, or no object such a number.
+    /// No candidate has such a name, or no object has such a number.
     NoSuch,
     /// Several candidates have such a name.
     Ambiguous,
@@ -33,20 +33,20 @@ pub(crate) enum Likeness {
     Prefix,
 }
 
-// Of which kind all objects are candidates.
+// The kind of object whose members are candidates.
 #[derive(Clone, Copy)]
 pub(crate) enum Sort {
     Rooms,
     Players,
 }
 
-/// The object that a text means to a player, where he is.
+/// Returns the object that a text means to a player at its place.
 ///
-/// `#n` is that object, `me` the player, `here` his place. Else the candidates are what he has,
-/// what lies in his room, and the exits that leave it; those with a name equal to the text are
-/// found, ASCII case ignored, or if there are none, those with a name that begins with it. One
-/// found is the answer (LambdaMOO Programmer's Manual, "The Built-in Command Parser"; that exits are
-/// candidates is this project's profile).
+/// `#n` is the object with that number, `me` the player, and `here` the player's place. Otherwise the candidates are
+/// the contents of the player, the contents of the player's room, and the exits that leave it. The search takes the
+/// candidates with a name equal to the text, ignoring ASCII case; if there are none, those with a name that begins with
+/// it. Exactly one is the answer (LambdaMOO Programmer's Manual, "The Built-in Command Parser"; exits as candidates are
+/// this project's profile).
 pub fn local_match(world: &World, player: u32, text: &str) -> Result<u32, Match>
     ensures { result ≡ local_match world.now player text.now }
 {
@@ -56,23 +56,23 @@ pub fn local_match(world: &World, player: u32, text: &str) -> Result<u32, Match>
     near_match(world, player, world.place(player), text)
 }
 
-/// The room that a text means to a player: as [`local_match`], with all rooms as candidates. By
-/// `#n`, `me` or `here` it may be an object of another kind.
+/// Returns the room that a text means to a player: like [`local_match`], with all rooms as candidates. `#n`, `me` or
+/// `here` may give an object of another kind.
 pub fn room_match(world: &World, player: u32, text: &str) -> Result<u32, Match>
     ensures { result ≡ match_among (is_room world.now) world.now player text.now }
 {
     sort_match(world, Sort::Rooms, player, text)
 }
 
-/// The player that a text means to a player: as [`local_match`], with all players as candidates. By
-/// `#n` or `here` it may be an object of another kind.
+/// Returns the player that a text means to a player: like [`local_match`], with all players as candidates. `#n` or
+/// `here` may give an object of another kind.
 pub fn player_match(world: &World, player: u32, text: &str) -> Result<u32, Match>
     ensures { result ≡ match_among (is_player world.now) world.now player text.now }
 {
     sort_match(world, Sort::Players, player, text)
 }
 
-// The object that a text means, with all objects of a sort as candidates.
+// Returns the object that a text means, with all objects of a sort as candidates.
 fn sort_match(world: &World, sort: Sort, player: u32, text: &str) -> Result<u32, Match>
     ensures { result ≡ match_among (is_sort sort world.now) world.now player text.now }
 {
@@ -82,7 +82,7 @@ fn sort_match(world: &World, sort: Sort, player: u32, text: &str) -> Result<u32,
     named_match(world, sort, text)
 }
 
-// What a text means whatever the candidates are.
+// Returns the meaning of a text that does not depend on candidates.
 fn direct_match(world: &World, player: u32, text: &str) -> Option<Result<u32, Match>>
     ensures { result ≡ direct_match world.now player text.now }
 {
@@ -111,8 +111,8 @@ fn match_number(world: &World, number: u32) -> Result<u32, Match>
     }
 }
 
-// The candidate near a player that a name means. A text is compared with whole names first, and then only with the
-// beginnings of longer ones: with no name twice.
+// Returns the candidate near a player that a name means. The text is first compared with whole names, and only then
+// with prefixes of longer ones, so no name is compared twice.
 fn near_match(world: &World, player: u32, place: Option<u32>, text: &str) -> Result<u32, Match>
     requires { place ≡ place_of world.now player }
     ensures { result ≡ or_else (sole_like Equal world.now text.now (candidates world.now player))
@@ -124,7 +124,7 @@ fn near_match(world: &World, player: u32, place: Option<u32>, text: &str) -> Res
     }
 }
 
-// The object of a sort that a name means, found in the same way.
+// Returns the object of a sort that a name means, found likewise.
 fn named_match(world: &World, sort: Sort, text: &str) -> Result<u32, Match>
     ensures { result ≡ or_else
         (sole_like Equal world.now text.now (filter (is_sort sort world.now) (range_with_len 0 world.now.next)))
@@ -136,7 +136,7 @@ fn named_match(world: &World, sort: Sort, text: &str) -> Result<u32, Match>
     }
 }
 
-// The sole candidate near a player with a name that fits.
+// Returns the single candidate near a player with a name that fits.
 fn sole_near(
     world: &World,
     player: u32,
@@ -202,7 +202,7 @@ fn is_sort(world: &World, sort: Sort, number: u32) -> bool
     }
 }
 
-// What two lists of candidates give together.
+// Combines the results of two lists of candidates.
 fn together(first: Result<u32, Match>, second: Result<u32, Match>) -> Result<u32, Match>
     ensures { result ≡ together first second }
 {
@@ -233,7 +233,7 @@ fn any_fits(names: &[String], text: &str, likeness: Likeness) -> bool
     false
 }
 
-// Whether a text is a whole name, or the beginning of a longer one.
+// Returns whether a text is a whole name, or a proper prefix of one.
 fn fits(text: &str, name: &str, likeness: Likeness) -> bool
     ensures { result ≡ fits likeness text.now name.now }
 {
@@ -252,7 +252,7 @@ fn begins(text: &str, name: &str) -> bool
     }
 }
 
-// The number in `#` and 1 to 9 digits.
+// Returns the number in `#` and 1 to 9 digits.
 pub(crate) fn object_number(text: &[u8]) -> Option<u32>
     ensures { result ≡ object_number text.now }
 {
@@ -262,7 +262,7 @@ pub(crate) fn object_number(text: &[u8]) -> Option<u32>
     number_in(&text[1..])
 }
 
-// The number in 1 to 9 digits.
+// Returns the number in 1 to 9 digits.
 pub(crate) fn number_in(text: &[u8]) -> Option<u32>
     ensures { result ≡ number_in text.now }
 {

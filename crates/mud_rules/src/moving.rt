@@ -42,7 +42,7 @@ impl Actor<'_> {
         on_given!(self.object_behind(parsed), thing => Ok(self.drop_down(thing)))
     }
 
-    // To his room, what he carries.
+    // Moves a carried thing to the player's room.
     fn drop_down(&self, thing: u32) -> Verdict
         ensures { result ≡ drop_down self.now.world.now self.now.player thing }
     {
@@ -58,7 +58,7 @@ impl Actor<'_> {
         on_found!(self.objects_round(Prep::In, parsed), objects => Ok(self.put_into(objects)))
     }
 
-    // Into a thing in his reach.
+    // Moves a thing into another thing in reach.
     fn put_into(&self, objects: (u32, u32)) -> Verdict
         ensures { result ≡ put self.now.world.now self.now.player objects }
     {
@@ -75,7 +75,7 @@ impl Actor<'_> {
         on_found!(self.objects_round(Prep::To, parsed), objects => Ok(self.give_to(objects)))
     }
 
-    // What he carries, to a player in his room.
+    // Moves a carried thing to a player in the room.
     fn give_to(&self, objects: (u32, u32)) -> Verdict
         ensures { result ≡ give self.now.world.now self.now.player objects }
     {
@@ -85,7 +85,7 @@ impl Actor<'_> {
         self.does(own, Deed::Move { thing, to })
     }
 
-    // A walk by the exit that was found, where the line is no command.
+    // Walks by the exit that a line which is not a command names.
     pub(crate) fn walk(&self, found: Result<u32, Match>) -> Verdict
         ensures { result ≡ on_found (object_meant Refusal.NotUnderstood found)
             (λ x. does self.now.world.now self.now.player None (deed.Walk x)) }
@@ -98,7 +98,7 @@ impl Actor<'_> {
     }
 }
 
-// Whether two players stand in one room.
+// Returns whether two players are in one room.
 pub(crate) fn together(world: &World, one: u32, other: u32) -> bool
     ensures { result ≡ shares_room world.now one other }
 {

@@ -6,7 +6,7 @@ ghost use Rattle.mud_key.specs.Finds.{names_in, name_in};
 use mud_key::{Name, Names, NamesFault};
 use std::alloc::{AllocError, Global};
 
-// The names of a text, where it is a names text.
+// Returns the names in a text, if it is a names text.
 pub(crate) fn names_in(alloc: Global, text: &str) -> Result<Option<Names>, AllocError>
     ensures { IfOk result (λ names. names ≡ names_in text.now) }
 {
@@ -17,7 +17,7 @@ pub(crate) fn names_in(alloc: Global, text: &str) -> Result<Option<Names>, Alloc
     }
 }
 
-// The name that a text is, where it is one.
+// Returns the name that a text is, if it is one.
 pub(crate) fn name_in(alloc: Global, text: &str) -> Result<Option<Name>, AllocError>
     ensures { IfOk result (λ name. name ≡ name_in text.now) }
 {

@@ -1,35 +1,15 @@
-//! How the refusals of a line come together.
+//! Combines the refusals of a line.
 
-ghost use Rattle.std.specs.Prelude.{◌≡◌, nat_lt, Option, Some, unwrap_or, if◌then◌else◌};
-ghost use Rattle.mud_world.specs.Legal.{refusal};
-ghost use Rattle.mud_world.specs.Refusals.{number, refused_if};
-ghost use Rattle.mud_rules.specs.Outcome.{outcome, object_meant, on_found, both, if_shaped};
+ghost use Rattle.std.specs.Prelude.{◌≡◌, nat_lt, unwrap_or, if◌then◌else◌};
+ghost use Rattle.mud_world.specs.Refusals.{number};
+ghost use Rattle.mud_rules.specs.Outcome.{object_meant, on_found, both, if_shaped};
 ghost use Rattle.mud_rules.specs.Commands.{kind_then_here};
 
 use crate::matching::Match;
 use crate::{Journey, Query, Verdict};
-use mud_world::{Change, Refusal, World, lesser, refused_if};
+use mud_world::{Refusal, lesser, refused_if};
 
-fn refusal(world: &World, change: &Change) -> Option<Refusal>
-    ensures { result ≡ refusal world.now change.now }
-{
-    match world.legal(change) {
-        Ok(()) => None,
-        Err(refusal) => Some(refusal),
-    }
-}
-
-// The change, or the least refusal: the command's own, or that of the change.
-pub(crate) fn outcome(world: &World, own: Option<Refusal>, change: Change) -> Verdict
-    ensures { result ≡ outcome world.now own change }
-{
-    match lesser(own, refusal(world, &change)) {
-        Some(refusal) => Verdict::Refused(refusal),
-        None => Verdict::Change(change),
-    }
-}
-
-// The refusals 4 and 5 by their conditions.
+// Returns refusal 4 or 5, by their conditions.
 pub(crate) fn kind_then_here(kind: bool, here: bool) -> Option<Refusal>
     ensures { result ≡ kind_then_here kind here }
 {
@@ -39,7 +19,7 @@ pub(crate) fn kind_then_here(kind: bool, here: bool) -> Option<Refusal>
     )
 }
 
-// The object that was found, or the refusal of a text that means none.
+// Returns the object that was found, or the refusal of a text that means none.
 pub(crate) fn object_meant(answer: Result<u32, Match>) -> Result<u32, Refusal>
     ensures { result ≡ object_meant Refusal.NoSuch answer }
 {
@@ -60,7 +40,7 @@ fn lower(first: Refusal, second: Refusal) -> Refusal
     }
 }
 
-// Two objects, where both were found.
+// Returns two objects, if both were found.
 pub(crate) fn both(
     first: Result<u32, Refusal>,
     second: Result<u32, Refusal>,
@@ -74,7 +54,7 @@ pub(crate) fn both(
     }
 }
 
-// A question of the right shape.
+// Returns a question if the line has the right shape.
 pub(crate) fn if_shaped(fits: bool, query: Query) -> Verdict
     ensures { result ≡ if_shaped fits (Verdict.Ask query) }
 {
@@ -85,7 +65,7 @@ pub(crate) fn if_shaped(fits: bool, query: Query) -> Verdict
     }
 }
 
-// A journey that is asked for, or its refusal.
+// Returns the question for a journey, or its refusal.
 pub(crate) fn asked_journey(found: Result<Journey, Refusal>) -> Verdict
     ensures { result ≡ on_found found (λ journey. Verdict.Ask (Query.Journey journey)) }
 {
@@ -95,7 +75,7 @@ pub(crate) fn asked_journey(found: Result<Journey, Refusal>) -> Verdict
     }
 }
 
-// A journey whose proof is asked for, or its refusal.
+// Returns the question for the proof of a journey, or its refusal.
 pub(crate) fn asked_proof(found: Result<Journey, Refusal>) -> Verdict
     ensures { result ≡ on_found found (λ journey. Verdict.Ask (Query.Proof journey)) }
 {
@@ -105,7 +85,7 @@ pub(crate) fn asked_proof(found: Result<Journey, Refusal>) -> Verdict
     }
 }
 
-// What is done with what was found, or its refusal.
+// Continues with the value that was found, or returns its refusal.
 macro_rules! on_found {
     ($found:expr, $object:ident => $meaning:expr) => {
         match $found {
@@ -115,7 +95,7 @@ macro_rules! on_found {
     };
 }
 
-// What is done with what a line gives, or its refusal, or out of memory.
+// Continues with the value that a line gives, or returns its refusal, or out of memory.
 macro_rules! on_given {
     ($given:expr, $object:ident => $meaning:expr) => {
         match $given {
@@ -129,7 +109,7 @@ macro_rules! on_given {
 pub(crate) use on_found;
 pub(crate) use on_given;
 
-// The refusal of a text that can't be read: what bars the player already, or its own.
+// Returns the refusal of an unreadable text: a refusal that stops the player already, or its own.
 pub(crate) fn refuse_unreadable(bar: Option<Refusal>, own: Refusal) -> Verdict
     ensures { result ≡ Verdict.Refused (unwrap_or bar own) }
 {

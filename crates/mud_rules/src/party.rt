@@ -1,12 +1,12 @@
-//! Who meets.
+//! The members of a meeting.
 
 ghost use Rattle.std.specs.Prelude.{◌≡◌};
 ghost use Rattle.mud_rules.specs.Party.{IsParty};
 
 use std::marker::Model;
 
-/// The players who are to meet, by their numbers: 2 to 8, none of them twice, in the order given.
-/// A contract sees the list of the numbers.
+/// The players of a meeting by their numbers: 2 to 8, all different, in the given order. A contract sees the list of
+/// the numbers.
 #[derive(Drop)]
 pub struct Party {
     members: Vec<u32>,
@@ -25,7 +25,7 @@ impl Model for Party {
 }
 
 impl Party {
-    // The party of these players.
+    // Returns the party of these players.
     pub(crate) fn of(members: Vec<u32>) -> Party
         requires { IsParty members.items }
         ensures { result ≡ members.items }
@@ -33,7 +33,7 @@ impl Party {
         Party { members }
     }
 
-    /// The numbers of the players, in the order given.
+    /// Returns the numbers of the players, in the given order.
     pub fn members(&self) -> &[u32]
         ensures members { result.now ≡ self.now }
         ensures party { IsParty self.now }

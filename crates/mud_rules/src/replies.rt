@@ -1,4 +1,4 @@
-//! What is said of a line that is accepted or refused.
+//! Replies to accepted and refused lines.
 
 ghost use Rattle.std.specs.Prelude.{◌≡◌, ◌++◌, ◌<◌, ◌^◌, IfOk, codes, decimal, unwrap_or, string_bytes};
 ghost use Rattle.mud_key.specs.Printed.{printed, by_text};
@@ -11,10 +11,10 @@ use mud_key::{Key, print};
 use mud_world::{Change, Deed, Doors, Refusal, Target, World};
 use std::alloc::{AllocError, Global};
 
-// Room for the longest text of two numbers.
+// The capacity for the longest reply with two numbers.
 const REPLY: usize = 40;
 
-/// What is said of a refused line (docs/COMMANDS.md, "Refusals").
+/// Returns the reply to a refused line (docs/COMMANDS.md, "Refusals").
 pub fn refusal_text(refusal: Refusal) -> &'static str
     ensures { result.now ≡ refusal_text refusal }
 {
@@ -40,8 +40,8 @@ pub fn refusal_text(refusal: Refusal) -> &'static str
     }
 }
 
-/// What is said of a change that is accepted (docs/COMMANDS.md, "What is answered"). The world is
-/// the one before the change, since the numbers of new objects are its next ones.
+/// Returns the reply to an accepted change (docs/COMMANDS.md, "Answers"). The world is the one before the
+/// change, because the numbers of new objects are its next numbers.
 pub fn reply_text(alloc: Global, world: &World, change: &Change) -> Result<String, AllocError>
     ensures { IfOk result (λ text. string_bytes text ≡ reply_text world.now change.now) }
 {
@@ -61,15 +61,15 @@ pub fn reply_text(alloc: Global, world: &World, change: &Change) -> Result<Strin
     }
 }
 
-/// What is said to a player who comes in: of [`Verdict::Become`](crate::Verdict) as of the change
-/// that makes a new player.
+/// Returns the reply to a player who comes in: for [`Verdict::Become`](crate::Verdict), and for the change that makes a
+/// new player.
 pub fn welcome_text(alloc: Global, player: u32) -> Result<String, AllocError>
     ensures { IfOk result (λ text. string_bytes text ≡ welcome_text player) }
 {
     about(alloc, "welcome #", player)
 }
 
-// Words, and an object's number.
+// Returns words and the number of an object.
 fn about(alloc: Global, words: &str, number: u32) -> Result<String, AllocError>
     ensures { IfOk result (λ text. string_bytes text ≡ words.now ++ decimal number) }
 {
@@ -78,7 +78,7 @@ fn about(alloc: Global, words: &str, number: u32) -> Result<String, AllocError>
     Ok(text)
 }
 
-// Words and a number, and again words and a number.
+// Returns words and a number, and again words and a number.
 fn about_two(
     alloc: Global,
     words: &str,
@@ -104,7 +104,7 @@ fn exits_text(alloc: Global, number: u32, doors: &Doors) -> Result<String, Alloc
     }
 }
 
-// A new room, and its exits.
+// Returns the reply about a new room and its exits.
 fn room_and_text(alloc: Global, room: u32, exits: &str) -> Result<String, AllocError>
     ensures { IfOk result (λ text. string_bytes text
         ≡ codes "room #" ++ decimal room ++ codes ", " ++ exits.now) }

@@ -17,7 +17,7 @@ fn joined_text(alloc: Global, words: &[CowStr<'_, Global>]) -> Result<String, Al
     words.join(alloc, " ")
 }
 
-// Words joined by one space. A lone word is not copied.
+// Returns the words joined by one space. A single word is not copied.
 pub(crate) fn join_words<'a>(
     alloc: Global,
     words: &'a [CowStr<'a, Global>],
@@ -30,7 +30,7 @@ pub(crate) fn join_words<'a>(
     }
 }
 
-// The words after the verb.
+// Returns the words after the verb.
 pub(crate) fn all_of<'a>(
     alloc: Global,
     parsed: &'a Parsed,
@@ -40,7 +40,7 @@ pub(crate) fn all_of<'a>(
     join_words(alloc, &parsed.args)
 }
 
-// The words of the line.
+// Returns the words of the line.
 pub(crate) fn whole_of(alloc: Global, parsed: &Parsed) -> Result<String, AllocError>
     ensures { IfOk result (λ text. string_bytes text
         ≡ join_words ((line_of parsed.now).verb ∷ (line_of parsed.now).args)) }
@@ -53,7 +53,7 @@ pub(crate) fn whole_of(alloc: Global, parsed: &Parsed) -> Result<String, AllocEr
     Ok(text)
 }
 
-// The words that name what is looked at: without a first `at` that has more after it.
+// Returns the words that name an object to look at: without a leading `at` that has more words after it.
 pub(crate) fn looked_at<'a>(words: &'a [CowStr<'a, Global>]) -> &'a [CowStr<'a, Global>]
     ensures { map cow_str_bytes result.now ≡ looked_at (map cow_str_bytes words.now) }
 {
@@ -67,7 +67,7 @@ pub(crate) fn looked_at<'a>(words: &'a [CowStr<'a, Global>]) -> &'a [CowStr<'a, 
     }
 }
 
-// The word after the verb, or the empty text.
+// Returns the word after the verb, or the empty text.
 pub(crate) fn first_of<'a>(parsed: &'a Parsed) -> &'a str
     ensures { result.now ≡ first_of (line_of parsed.now) }
 {
@@ -89,14 +89,14 @@ fn is_prep(prep: Prep, found: Option<Prep>) -> bool
     }
 }
 
-// Whether two texts have this between them.
+// Returns whether there are texts before and after this preposition.
 pub(crate) fn is_pair(prep: Prep, parsed: &Parsed) -> bool
     ensures { result ≡ is_pair prep (line_of parsed.now) }
 {
     is_prep(prep, parsed.prep) && !parsed.direct.is_empty() && !parsed.indirect.is_empty()
 }
 
-// Whether a text is after this, and none before it.
+// Returns whether there is a text after this preposition, and none before it.
 pub(crate) fn is_aimed(prep: Prep, parsed: &Parsed) -> bool
     ensures { result ≡ is_aimed prep (line_of parsed.now) }
 {

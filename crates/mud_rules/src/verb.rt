@@ -1,4 +1,4 @@
-//! The verbs of the table of commands.
+//! The verbs of the table.
 
 ghost use Rattle.std.specs.Prelude.{◌≡◌, ◌∷◌, ℕ, false, List, map};
 ghost use Rattle.std.specs.Option.{option_map_or};
@@ -54,7 +54,7 @@ const WITH_SIGN: &[(&str, Verb)] = &[
 ];
 
 impl Verb {
-    /// The verb that a word names, if the table has it.
+    /// Returns the verb that a word names, if the table has it.
     pub(crate) fn of_word(text: &str) -> Option<Verb>
         ensures { result ≡ verb_named text.now }
     {
@@ -64,7 +64,7 @@ impl Verb {
         verb_in(rows_with(letter.to_ascii_lowercase()), text)
     }
 
-    /// Whether a word names the verb of a question.
+    /// Returns whether a word names the verb of a question.
     pub(crate) fn asks(text: &str) -> bool
         ensures { result ≡ option_map_or asks (verb_named text.now) false }
     {
@@ -74,7 +74,7 @@ impl Verb {
         }
     }
 
-    // Whether it is the verb of a question.
+    // Returns whether it is the verb of a question.
     fn is_question(self) -> bool
         ensures { result ≡ asks self }
     {
@@ -87,7 +87,7 @@ impl Verb {
     }
 }
 
-// The words of the table that begin with a letter, which is a small one.
+// Returns the words of the table that begin with this lower-case letter.
 fn rows_with(letter: u8) -> &'static [(&'static str, Verb)]
     ensures { (c : ℕ) (cs : List ℕ) → to_ascii_lowercase c ≡ letter
         → lookup (str_eq_ignore_ascii_case (c ∷ cs)) (map row_of result.now) ≡ verb_named (c ∷ cs) }
@@ -114,7 +114,7 @@ fn rows_with(letter: u8) -> &'static [(&'static str, Verb)]
     }
 }
 
-// The verb that a word names among these.
+// Returns the verb that a word names among these rows.
 fn verb_in(rows: &[(&str, Verb)], text: &str) -> Option<Verb>
     ensures { result ≡ lookup (str_eq_ignore_ascii_case text.now) (map row_of rows.now) }
 {

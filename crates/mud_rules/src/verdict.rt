@@ -1,56 +1,56 @@
-//! What a line comes to.
+//! The results of a line.
 
 use crate::Party;
 use mud_world::{Change, Refusal};
 
-/// What a player may ask to be shown; [`show`](crate::show) answers it.
+/// A question that [`show`](crate::show) answers.
 #[derive(Drop)]
 pub enum View {
-    /// The room that he is in.
+    /// The player's room.
     Look,
     /// The object of this number.
     LookAt(u32),
-    /// What he has, directly.
+    /// The things that lie directly in the player.
     Inventory,
     /// The key of the object of this number.
     KeyOf(u32),
-    /// The version that the answer speaks of.
+    /// The version that the answer is about.
     Version,
-    /// To leave.
+    /// Leaving.
     Quit,
 }
 
 /// A journey that a player may ask for.
 #[derive(Drop)]
 pub enum Journey {
-    /// Of his own, to the room of this number.
+    /// The player's own journey to this room.
     Route { to: u32 },
-    /// Of these players, to a room where they meet.
+    /// The journeys of these players to a meeting room.
     Meet(Party),
 }
 
-/// What a player may ask; it changes nothing.
+/// A question of a player. It changes nothing.
 #[derive(Drop)]
 pub enum Query {
-    /// What the world alone answers.
+    /// A question about the world alone.
     View(View),
-    /// How a journey is made.
+    /// A question for a journey.
     Journey(Journey),
-    /// How a journey is made, with its proof.
+    /// A question for the proof of a journey.
     Proof(Journey),
-    /// The changes that led to this world.
+    /// A question for the history.
     History,
 }
 
-/// What a line asks for.
+/// The meaning of a line.
 #[derive(Drop)]
 pub enum Verdict {
-    /// A change that is legal in the world that was asked.
+    /// A change that is legal in the given world.
     Change(Change),
-    /// A question. A room in it is one of the world that was asked, and so are its players.
+    /// A question. Its room and its players are objects of the given world.
     Ask(Query),
-    /// Who typed the line is the player of this number from now on, one of the world that was asked.
+    /// The session becomes this player's, a player of the given world.
     Become(u32),
-    /// The refusal of least number.
+    /// The refusal with the least number.
     Refused(Refusal),
 }

@@ -1,4 +1,4 @@
--- The labels of the numbers below one, by rising number: what one more number adds.
+-- The labels of the numbers below one, sorted by number: the effect of one more number.
 use Rattle.std.proofs.Common.{◌≡◌, ℕ, ◌+◌, ◌<◌, ◌≤◌, inl, inr, List, [], ◌∷◌, ◌++◌, Option, None, Some}
 use Rattle.std.proofs.Common.{sym, ◌∙◌, ap, subst, arith}
 use Rattle.std.specs.Prelude.{Contains}
@@ -48,7 +48,7 @@ below-push labels room l found are is = record {
   ];
 }
 
--- numbers past the last room have none
+-- numbers past the last room have no label
 pub below-past : (labels : ℕ → Option Label) (end next : ℕ) (found : List (ℕ × Label)) → end ≤ next
     → ((room : ℕ) → end ≤ room → room < next → labels room ≡ None) → AreLabelsBelow labels end found
     → AreLabelsBelow labels next found

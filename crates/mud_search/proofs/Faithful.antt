@@ -1,4 +1,4 @@
--- The facts last, and at rest the labels are least.
+-- The invariant is preserved, and at rest the labels are least.
 use Rattle.std.proofs.Common.{◌≡◌, ◌≢◌, cond, ℕ, zero, suc, ◌*◌, ◌<◌, ◌≤◌, ◌⊎◌, inl, inr, Bool, true, false, List, []}
 use Rattle.std.proofs.Common.{◌∷◌, length, set, Option, None, Some, refl, sym, ◌∙◌, ap, subst, arith, get_or-set_same}
 use Rattle.std.proofs.Common.{get_or-set_other, length-set}
@@ -49,7 +49,7 @@ start-least k p =
 pub some-inj : {A : Type 0} (a b : A) → Some a ≡ Some b → a ≡ b
 some-inj a b e = cc
 
--- a slot may be written with a walk's label that is no greater than the one before
+-- a slot may be set to a walk's label that is not greater than the one before
 pub faithful-set : (roads : Roads) (from rooms : ℕ) (slots : List Slot) → IsBoardOf roads from rooms slots
     → (d : ℕ) (v : Slot) (k : Label) → d < rooms → label_of v ≡ Some k
     → ((l : Label) → Reaches (label_at slots) d l → AtMost k l)
@@ -103,7 +103,7 @@ faithful-set roads from rooms slots sound d v k h is low walked done =
       };
     }
 
--- a slot may change hands
+-- a slot may change between waiting, held and finished
 pub faithful-relabelled : (roads : Roads) (from rooms : ℕ) (slots : List Slot) → IsBoardOf roads from rooms slots
     → (d : ℕ) (v : Slot) (k : Label) → d < rooms → label_at slots d ≡ Some k → label_of v ≡ Some k
     → ((s : Step) → v ≡ Finished k → Contains (roads d) s → Reaches (label_at slots) s.to (after 1 k s))
@@ -134,7 +134,7 @@ pub bool-cases : (b : Bool) → (b ≡ true) ⊎ (b ≡ false)
 bool-cases true = inl refl
 bool-cases false = inr refl
 
--- a step may lower the label where it leads
+-- a step may lower the label of the room where it leads
 pub faithful-lowered : (roads : Roads) (from rooms : ℕ) (slots : List Slot) → IsBoardOf roads from rooms slots
     → AreWithin roads rooms
     → (by : ℕ) (l : Label) (s : Step) → label_at slots by ≡ Some l → Contains (roads by) s
@@ -175,14 +175,14 @@ faithful-lowered roads from rooms slots sound inside by l s was c less =
         → t.cost ≡ l.cost → t.exits ≡ l.exits → ⊥
     clash l s k t b p e f = omega arith
 
--- what is kept from one list of slots to the next, where the steps of a room are followed
+-- the facts that relaxing the steps of a room preserves
 pub record Follows (roads : Roads) (from rooms by : ℕ) (l : Label) (before then : List Slot) : Type 0 where
   pub sound : IsBoardOf roads from rooms then
   pub still : label_at then by ≡ Some l
   pub kept : slot_at then by ≡ slot_at before by
   pub down : Falls (label_at before) (label_at then)
 
--- the label after a step to itself is no less
+-- the label after a step to the room itself is not less
 self-loop : (l k : Label) (s : Step) → k ≡ l → Below (after 1 l s) k → ⊥
 self-loop l k s e b =
     let P : Label → Type 0 = λ j. Below (after 1 l s) j in
@@ -229,7 +229,7 @@ follows-offered roads from rooms slots sound inside by l s was c =
         let bad : true ≡ false = sym (ap (falls (after 1 l s)) at) ∙ higher in
         absurd (cc)
 
--- in a longer list, and first in it
+-- an element of a list is one of a longer list
 pub there : {A : Type 0} (x : A) (xs : List A) (y : A) → Contains xs y → Contains (x ∷ xs) y
 there x xs y (k, h, e) = (suc k, omega arith, e)
 
@@ -240,7 +240,7 @@ first-or : {A : Type 0} (x : A) (xs : List A) (y : A) → Contains (x ∷ xs) y 
 first-or x xs y (zero, h, e) = inl e
 first-or x xs y (suc k, h, e) = inr (k, omega arith, e)
 
--- all steps out of a room may be followed, and none then leads to a greater label
+-- relaxing all steps out of a room leaves no step to a greater label
 pub follows-offers : (roads : Roads) (from rooms : ℕ) → AreWithin roads rooms → (by : ℕ) (l : Label)
     → (ss : List Step) → ((s : Step) → Contains ss s → Contains (roads by) s)
     → (slots : List Slot) → IsBoardOf roads from rooms slots → label_at slots by ≡ Some l
@@ -267,7 +267,7 @@ follows-offers roads from rooms inside by l (s ∷ ss) those slots sound was =
           ],
     )
 
--- a room whose steps are followed may be finished
+-- a room whose steps are relaxed may be finished
 pub faithful-settled : (roads : Roads) (from rooms : ℕ) → AreWithin roads rooms → (room : ℕ) (l : Label)
     → (steps : List Step) → steps ≡ roads room
     → (slots : List Slot) → IsBoardOf roads from rooms slots → label_at slots room ≡ Some l → room < rooms
@@ -289,7 +289,7 @@ labelled-within slots room l e =
           absurd (cc)
     ]
 
--- no label is greater than the longest walk that visits no room twice
+-- no label is greater than that of the longest walk without repeated rooms
 pub label-bound : (roads : Roads) (from rooms : ℕ) (slots : List Slot)
     → IsBoardOf roads from rooms slots → AreWithin roads rooms
     → (room : ℕ) (l : Label) → label_at slots room ≡ Some l → (l.exits < rooms) × (l.cost ≤ MOST_COST * l.exits)
@@ -388,7 +388,7 @@ pub record Fell (l : Label) (ss : List Step) (slots : List Slot) (q : ℕ) (v : 
   pub now : v ≡ Waiting (after 1 l step)
   pub less : (k : Label) → label_at slots q ≡ Some k → Below (after 1 l step) k
 
--- a room's slot is as before, or it fell
+-- a room's slot is unchanged, or its label fell
 pub offers-slot : (l : Label) (ss : List Step) (slots : List Slot)
     → ((s : Step) → Contains ss s → s.to < length slots) → (q : ℕ)
     → (slot_at (offers l ss slots) q ≡ slot_at slots q) ⊎ Fell l ss slots q (slot_at (offers l ss slots) q)

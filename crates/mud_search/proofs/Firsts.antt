@@ -1,4 +1,4 @@
--- The first of the waiting rooms.
+-- The first waiting room.
 use Rattle.std.proofs.Common.{◌≡◌, ℕ, ◌<◌, ◌≤◌, List, [], length, Option, None, Some, inl, inr}
 use Rattle.std.proofs.Common.{sym, ◌∙◌, ap, arith}
 use Rattle.std.specs.Prelude.{IfSome, IfNone}
@@ -12,14 +12,14 @@ use Rattle.mud_search.specs.inner.Boards.{slot_at, slot_of}
 use Rattle.mud_search.specs.Tasks.{IsFirst}
 use Rattle.mud_search.specs.inner.Order.{IsTaskBefore}
 
--- the task is the first of the members so far; with none no room of theirs waits
+-- the task is the first one of the members so far; without one no room of theirs waits
 abbrev pub BestSoFar : List (List Slot) → ℕ → Option Task → Type 0
 BestSoFar boards n None = (m r : ℕ) (l : Label) → m < n → slot_of boards m r ≡ Waiting l → ⊥
 BestSoFar boards n (Some t) =
     (t.member < n) × (slot_of boards t.member t.room ≡ Waiting t.label)
     × ((m r : ℕ) (l : Label) → m < n → slot_of boards m r ≡ Waiting l → IsTaskBefore t m r l)
 
--- a waiting room is one of a member's
+-- a waiting room belongs to a member
 pub waiting-member : (boards : List (List Slot)) (m r : ℕ) (l : Label) → slot_of boards m r ≡ Waiting l
     → m < length boards
 waiting-member boards m r l e =

@@ -1,4 +1,4 @@
--- The facts of a frontier last.
+-- The invariant of a frontier is preserved.
 use Rattle.std.proofs.Common.{◌≡◌, ◌≢◌, ℕ, ◌+◌, ◌^◌, ◌<◌, ◌≤◌, ◌⊎◌, inl, inr, Bool, true, false, List, [], length, map}
 use Rattle.std.proofs.Common.{get_or, set, replicate, None, Some, refl, sym, ◌∙◌, ap, subst, arith, get_or-set_same}
 use Rattle.std.proofs.Common.{get_or-set_other, length-set}
@@ -38,15 +38,15 @@ use Rattle.mud_search.proofs.Faithful.{labelled-within}
 use Rattle.mud_search.proofs.Firsts.{waiting-member}
 use Rattle.mud_search.proofs.Potential.{weight-settled_left, potential-set_less}
 
--- with another slot at a member's room
+-- the boards with another slot for a member's room
 abbrev pub with_slot : List (List Slot) → ℕ → ℕ → Slot → List (List Slot)
 with_slot boards member room v = set boards member (set (board_of boards member) room v)
 
--- the boards of the beginning
+-- the initial boards
 abbrev pub begun : ℕ → List Knowledge → List (List Slot)
 begun rooms ts = map (begun_at rooms) ts
 
--- what stands where a list of members is asked past its end
+-- the default past the end of a list of members
 abbrev nobody : Knowledge
 nobody = knowledge_of 0 0 [] []
 
@@ -75,7 +75,7 @@ frontier-set w ts boards f m b h sound = record {
       ];
 }
 
--- a room may change hands
+-- a room may change between waiting, held and finished
 pub frontier-relabelled : (w : State) (ts : List Knowledge) (boards : List (List Slot)) → IsKept w ts boards
     → (m room : ℕ) (v : Slot) (l : Label) → m < length boards → label_at (board_of boards m) room ≡ Some l
     → label_of v ≡ Some l → ((k : Label) → v ≢ Finished k)
@@ -87,7 +87,7 @@ frontier-relabelled w ts boards f m room v l h was is not_done =
     faithful-relabelled (roads_of w t.player) t.place w.next (board_of boards m) sound room v l within was is
     (λ s d c. absurd (not_done l d)))
 
--- where a labelled room gets another slot, nothing else changes
+-- if a labelled room gets another slot, nothing else changes
 pub slot-changed : (boards : List (List Slot)) (m room : ℕ) (v : Slot) (l : Label) (b : List Slot) → m < length boards
     → label_at (board_of boards m) room ≡ Some l → b ≡ set (board_of boards m) room v
     → IsChanged (slot_of boards) (slot_of (set boards m b)) m room v
@@ -165,11 +165,11 @@ begun-faithful w t h =
     some-inj : (a b : Label) → Some a ≡ Some b → a ≡ b
     some-inj a b e = cc
 
--- what is below another isn't above it
+-- a label below another is not above it
 not-below : (a k : Label) → Below a k → AtMost k a → ⊥
 not-below a k p q = let same : k.cost ≡ a.cost = omega (arith, p.0, q.0) in omega (arith, p.1 (sym same), q.1 same)
 
--- what a settled room needs, and what it leaves
+-- the premises and the effect of finishing a room
 module _ (w : State) (ts : List Knowledge) (boards : List (List Slot)) (f : IsKept w ts boards) (m room : ℕ)
     (h : m < length boards) (steps : List Step)
     (are : (t : Knowledge) → slice_get ts m ≡ Some t → steps ≡ roads_of w t.player room) where
@@ -264,7 +264,7 @@ module _ (w : State) (ts : List Knowledge) (boards : List (List Slot)) (f : IsKe
         reached = λ s c. subst (R s.to (after 1 l s)) (sym here) (down s.to (after 1 l s) (all.1 s c));
       }
 
--- at first all is sound
+-- the initial frontier satisfies the invariant
 pub frontier-begun : (w : State) (ts : List Knowledge) → IsSound w → All (IsTraveller w) ts → length ts ≤ MOST_PARTY
     → IsKept w ts (begun w.next ts)
 frontier-begun w ts g these few = record {
@@ -286,7 +286,7 @@ frontier-begun w ts g these few = record {
         place-within w t g
         (subst P (get_or_from_slice_get ts m t t is) (All-get_or P ts m t (slice_get_within ts m t is) these))
 
--- a room that is held may wait again, and nothing else
+-- a held room may wait again, and nothing else changes
 pub frontier-released : (w : State) (ts : List Knowledge) (boards : List (List Slot)) → IsKept w ts boards
     → (m room : ℕ) (l : Label) (b : List Slot) → m < length boards → (done : Bool)
     → OnTrue done ((slot_of boards m room ≡ Held l) × (b ≡ set (board_of boards m) room (Waiting l)))
@@ -305,7 +305,7 @@ pub label-of_boards : (boards : List (List Slot)) (m room : ℕ)
 label-of_boards boards m room = ap (λ b. get_or b room None) (get_or-map (map label_of) boards m [])
     ∙ get_or-map label_of (board_of boards m) room Unknown
 
--- where no room waits or is held the labels are the least
+-- if no room waits or is held, the labels are the least
 pub frontier-still : (w : State) (ts : List Knowledge) (boards : List (List Slot)) → IsKept w ts boards
     → ((m room : ℕ) (l : Label) → slot_of boards m room ≡ Waiting l → ⊥)
     → ((m room : ℕ) (l : Label) → slot_of boards m room ≡ Held l → ⊥)
@@ -335,7 +335,7 @@ frontier-bounded w ts boards f m room l was =
               absurd (cc)
         ]
 
--- and so where the counts are 0
+-- likewise if the counts are 0
 pub frontier-rest : (w : State) (ts : List Knowledge) (boards : List (List Slot)) → IsKept w ts boards
     → sum_by (count_by is_waiting) boards ≡ 0 → sum_by (count_by is_held) boards ≡ 0
     → AreLeast w ts (labels_in (table boards))
@@ -386,7 +386,7 @@ begun-is w ts g these = record {
         place-within w t g
         (subst P (get_or_from_slice_get ts m t t is) (All-get_or P ts m t (slice_get_within ts m t is) these))
 
--- what is kept, as it is told
+-- the invariant as the facts state it
 pub frontier-facts : (w : State) (ts : List Knowledge) (boards : List (List Slot)) → IsKept w ts boards
     → IsFrontier w ts (slot_of boards)
 frontier-facts w ts boards f = record {

@@ -1,4 +1,4 @@
--- Rooms keep their entries and their labels where entries change places.
+-- Rooms keep their entries and their labels when entries are swapped.
 use Rattle.std.proofs.Common.{◌≡◌, ◌≢◌, ℕ, ◌+◌, ◌<◌, ◌≤◌, inl, inr, true, nat_lt, Option, Some, None, List, length}
 use Rattle.std.proofs.Common.{get_or, set, sym, ◌∙◌, ap, subst, refl, arith, get_or-set_same, get_or-set_other}
 use Rattle.std.proofs.Common.{length-set, replicate}
@@ -19,12 +19,12 @@ pub label_at_place : (es : List Entry) (ps : List ℕ) (w r : ℕ) → IsMatched
     → get_or (waiting_labels es ps w) r None ≡ label_there es w (place_at ps r)
 label_at_place es ps w r m within = get_or-map (λ p. label_there es w p) ps r 0 None (omega (arith, m.whole))
 
--- a room stands where its entry does
+-- a room's index is that of its entry
 place_of_entry : (es : List Entry) (ps : List ℕ) (p r : ℕ) → IsMatched es ps → p < length es → (entry_at es p).room ≡ r
     → (r < length es) × (place_at ps r ≡ p)
 place_of_entry es ps p r m within is = rw is at (m.here p within)
 
--- the label of a room by where its entry stands
+-- the label of a room, by the index of its entry
 pub label_of_entry : (es : List Entry) (ps : List ℕ) (w p r : ℕ) → IsMatched es ps
     → p < length es → (entry_at es p).room ≡ r
     → get_or (waiting_labels es ps w) r None ≡ label_there es w p
@@ -32,12 +32,12 @@ label_of_entry es ps w p r m within is =
     let at = place_of_entry es ps p r m within is in
     label_at_place es ps w r m at.0 ∙ ap (λ (k : ℕ). label_there es w k) at.1
 
--- entries that are alike, and both wait or both don't, give one label
+-- equal entries that both wait or both do not give one label
 same_there : (es fs : List Entry) (w v p q : ℕ) → entry_at fs p ≡ entry_at es q → nat_lt p v ≡ nat_lt q w
     → label_there fs v p ≡ label_there es w q
 same_there es fs w v p q same both = cc
 
--- what has to be known of a changed queue's entries, but that of one room, for the labels to stay
+-- the facts about all entries but one room's that keep the labels of a changed queue
 abbrev pub IsKept : List Entry → List Entry → ℕ → ℕ → ℕ → Type 0
 IsKept es fs w v room =
     (p : ℕ) → p < length fs → (entry_at fs p).room ≢ room → (q : ℕ) × (q < length es)
@@ -55,7 +55,7 @@ kept_label es fs ps qs w v room m n whole kept r within other =
     label_at_place fs qs v r n within ∙ same_there es fs w v p found.0 found.2 found.3
     ∙ sym (label_of_entry es ps w found.0 r m found.1 old)
 
--- then the labels are those of before, but for that of the room
+-- then the labels are unchanged, except that of the room
 pub kept_labels : (es fs : List Entry) (ps qs : List ℕ) (w v room : ℕ) (l : Option Label) → IsMatched es ps
     → IsMatched fs qs → length fs ≡ length es
     → IsKept es fs w v room → room < length es → get_or (waiting_labels fs qs v) room None ≡ l
@@ -73,7 +73,7 @@ kept_labels es fs ps qs w v room l m n whole kept within is =
           ∙ sym (get_or-set_other (waiting_labels es ps w) room r l None other)
     ])
 
--- two that wait change places
+-- two waiting rooms are swapped
 pub swapped_labels : (es fs : List Entry) (ps qs : List ℕ) (w i j : ℕ) → IsMatched es ps
     → IsMatched fs qs → IsSwapped es fs i j
     → w ≤ length es → i < w → j < w → waiting_labels fs qs w ≡ waiting_labels es ps w
@@ -99,7 +99,7 @@ swapped_labels es fs ps qs w i j m n s fits one other =
     (new ∙ same_there es fs w w j i s.other both ∙ sym old)
     ∙ set-get_or (waiting_labels es ps w) room None
 
--- a room comes to those that wait, and gets some label
+-- a room starts to wait, and gets some label
 pub admitted_labels : (es fs : List Entry) (ps qs : List ℕ) (w at room : ℕ) → IsMatched es ps
     → IsMatched fs qs → IsSwapped es fs at w
     → w ≤ at → at < length es → (entry_at es at).room ≡ room
@@ -118,7 +118,7 @@ admitted_labels es fs ps qs w at room m n s behind within is =
     kept_labels es fs ps qs w (w + 1) room (get_or (waiting_labels fs qs (w + 1)) room None) m n s.whole kept
     (place_of_entry es ps at room m within is).0 refl
 
--- a room leaves those that wait
+-- a room stops waiting
 pub dismissed_labels : (es fs : List Entry) (ps qs : List ℕ) (w last at : ℕ) → IsMatched es ps
     → IsMatched fs qs → IsSwapped es fs at last
     → w ≡ last + 1 → w ≤ length es → at < w
@@ -139,7 +139,7 @@ dismissed_labels es fs ps qs w last at m n s more fits within =
     kept_labels es fs ps qs w last room None m n s.whole kept (m.here at (omega arith)).0
     (label_of_entry fs qs last last room n (omega (arith, s.whole)) (ap (λ (e : Entry). e.room) s.other) ∙ out)
 
--- a room that waits gets another label
+-- a waiting room gets another label
 pub written_matched : (es : List Entry) (ps : List ℕ) (at : ℕ) (e : Entry) → IsMatched es ps → at < length es
     → (entry_at es at).room ≡ e.room
     → IsMatched (set es at e) ps
@@ -178,7 +178,7 @@ written_labels es ps w at e m fits within is =
     (place_of_entry es ps at e.room m inside is).0
     (label_of_entry (set es at e) ps w at e.room n (omega arith) (ap (λ (x : Entry). x.room) here) ∙ label)
 
--- what is written where two entries change places
+-- the entries after a swap
 pub swapped_entries : (es : List Entry) (i j : ℕ) (a b : Entry) → i < length es → j < length es
     → a ≡ entry_at es i → b ≡ entry_at es j
     → IsSwapped es (set (set es i b) j a) i j
@@ -196,7 +196,7 @@ swapped_entries es i j a b one other is_a is_b =
           ∙ get_or-set_other es i k b _ not_one;
     }
 
--- a list of places in which two were written, the second in the end
+-- a list of indices in which two were set, the second one last
 two_places : (ps : List ℕ) (r q i j : ℕ) → r < length ps → q < length ps
     → (place_at (set (set ps r i) q j) q ≡ j)
     × (r ≢ q → place_at (set (set ps r i) q j) r ≡ i)
@@ -213,7 +213,7 @@ pub one_entry : (es : List Entry) (ps : List ℕ) (i j : ℕ) → IsMatched es p
     → (entry_at es i).room ≡ (entry_at es j).room → i ≡ j
 one_entry es ps i j m one other same = sym (m.here i one).1 ∙ ap (place_at ps) same ∙ (m.here j other).1
 
--- where two entries change places and their rooms with them, all stay matched
+-- if two entries and their rooms' indices are swapped, all stay matched
 matched_from_swap : (es fs : List Entry) (ps qs : List ℕ) (i j : ℕ) → IsMatched es ps → IsSwapped es fs i j
     → i < length es → j < length es
     → length qs ≡ length ps
@@ -285,7 +285,7 @@ swapped_matched es ps i j a b m one other is_a is_b =
     (length-set (set ps (entry_at es j).room i) (entry_at es i).room j ∙ length-set ps (entry_at es j).room i)
     two.0 two.1 two.2))
 
--- where none waits
+-- if none waits
 pub none_wait : (es : List Entry) (ps : List ℕ) (n : ℕ) → length ps ≡ n → waiting_labels es ps 0 ≡ replicate n None
 none_wait es ps n whole =
     let same : length (waiting_labels es ps 0) ≡ n = length-map ps (λ p. label_there es 0 p) ∙ whole in
@@ -295,7 +295,7 @@ none_wait es ps n whole =
     let out : label_there es 0 (place_at ps r) ≡ None = grind (arith, nat_tests) in
     get_or-map (λ p. label_there es 0 p) ps r 0 None (omega arith) ∙ out ∙ sym (get_or-replicate n r None None within))
 
--- a room whose place is after the front doesn't wait, and stays so
+-- a room whose index is past the waiting ones does not wait
 pub absent_stays : (es : List Entry) (ps : List ℕ) (w r p : ℕ) → IsMatched es ps
     → r < length es → p ≡ get_or ps r p → w ≤ p
     → waiting_labels es ps w ≡ set (waiting_labels es ps w) r None
@@ -305,7 +305,7 @@ absent_stays es ps w r p m within is behind =
     let none : get_or (waiting_labels es ps w) r None ≡ None = label_at_place es ps w r m within ∙ out in
     sym (set-get_or (waiting_labels es ps w) r None) ∙ ap (set (waiting_labels es ps w) r) none
 
--- what has a label waits
+-- a room with a label waits
 there_within : (es : List Entry) (w p : ℕ) (l : Label) → label_there es w p ≡ Some l
     → (p < w) × ((entry_at es p).label ≡ l)
 there_within es w p l is =
@@ -332,7 +332,7 @@ waits_at es ps w r l m is =
           absurd (cc)
     ]
 
--- so all labels but that of a room that came are those of before
+-- so all labels but that of the new room are unchanged
 pub admitted_set : (es fs : List Entry) (ps qs : List ℕ) (w at room : ℕ) → IsMatched es ps
     → IsMatched fs qs → IsSwapped es fs at w
     → room < length es → at ≡ get_or ps room at → w ≤ at → (l : Option Label)

@@ -1,4 +1,4 @@
--- An entry sinks, and is written where it ends: until then its place holds another, which moved up.
+-- An entry sinks, and is written at its final index. Until then the place holds another entry, which moved up.
 use Rattle.std.proofs.Common.{◌≡◌, ◌≢◌, ℕ, ◌-◌, ◌/◌, ◌<◌, ◌≤◌, List, length, set, sym, ◌∙◌, ap, subst, arith}
 use Rattle.std.proofs.Common.{get_or, get_or-set_same, get_or-set_other, length-set}
 use Rattle.std.proofs.lemmas.List.{get_or_read, set-set, set_comm, set-get_or}
@@ -8,7 +8,7 @@ use Rattle.mud_search.specs.inner.Queues.{IsOrderedDownTo, IsSwapped}
 use Rattle.mud_search.proofs.Heaps.{swapped_entries, swapped_matched, swapped_labels, one_entry}
 use Rattle.mud_search.proofs.Mending.{moved, sunk}
 
--- written where it was read, it changes nothing
+-- writing an entry back changes nothing
 pub read_and_written : (es : List Entry) (ps : List ℕ) (at : ℕ) (e : Entry) → IsMatched es ps → at < length es
     → e ≡ get_or es at e → (set es at e ≡ es) × (set ps e.room at ≡ ps)
 read_and_written es ps at e m within is =
@@ -18,7 +18,7 @@ read_and_written es ps at e m within is =
       ap (set ps e.room) (sym place) ∙ set-get_or ps e.room 0,
     )
 
--- what stands right below a place stays there, whatever is written at the place
+-- the lesser child of a place stays, whatever is written at the place
 pub first_stays : (es : List Entry) (w at below : ℕ) (e : Entry) → IsFirstBelow es w at below
     → IsFirstBelow (set es at e) w at below
 first_stays es w at below e f =
@@ -73,7 +73,7 @@ sunk_on es ps w at below e n m fits within f before is o =
       swapped_labels fs gs qs rs w at below m matched s (omega arith) within f.within,
     )
 
--- the room of what stands right below has a place
+-- the room of the lesser child has an index
 pub room_below : (es : List Entry) (ps : List ℕ) (w at below : ℕ) (e n : Entry)
     → IsMatched (set es at e) (set ps e.room at) → w ≤ length es → IsFirstBelow es w at below → n ≡ entry_at es below
     → n.room < length ps

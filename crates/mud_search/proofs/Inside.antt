@@ -14,7 +14,7 @@ use Rattle.mud_roads.proofs.Roads.{steps-inside, traveller-below}
 abbrev pub AreWithin : Roads → ℕ → Type 0
 AreWithin roads rooms = (room : ℕ) (s : Step) → Contains (roads room) s → (s.to < rooms) × (s.cost ≤ MOST_COST)
 
--- so do the roads of a sound world
+-- the roads of a sound world do
 pub world-within : (w : State) (t : Knowledge) → IsSound w → AreWithin (roads_of w t.player) w.next
 world-within w t sound room s c = steps-inside w sound t.player room s c
 

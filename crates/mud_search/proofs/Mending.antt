@@ -1,4 +1,4 @@
--- The order of those that wait, while an entry rises or sinks.
+-- The heap order while an entry rises or sinks.
 use Rattle.std.proofs.Common.{◌≡◌, ℕ, zero, suc, ◌-◌, ◌/◌, ◌<◌, ◌≤◌, inl, inr, refl, Some, None, List}
 use Rattle.std.proofs.Common.{length, sym, ◌∙◌, ap, subst, arith, get_or}
 use Rattle.std.proofs.lemmas.List.{get_or_read}
@@ -11,7 +11,7 @@ use Rattle.mud_search.specs.inner.Queues.{IsOrderedDownTo, IsSwapped}
 use Rattle.mud_search.proofs.Heaps.{waits_at}
 use Rattle.mud_search.proofs.Orders.{no_later_itself, no_later_trans}
 
--- none comes before the one above it
+-- no entry comes before its parent
 abbrev pub IsOrdered : List Entry → ℕ → Type 0
 IsOrdered es w = (i : ℕ) → 0 < i → i < w → IsNoLater (entry_at es ((i - 1) / 2)) (entry_at es i)
 
@@ -27,7 +27,7 @@ pub between : (es : List Entry) (i j : ℕ) (a b : Entry) → i < length es → 
 between es i j a b one other is_a is_b h =
     moved _ _ a b (sym (get_or_read es i a one is_a _)) (sym (get_or_read es j b other is_b _)) h
 
--- the first of all stands in front
+-- the least entry is the root
 pub front_first : (es : List Entry) (w : ℕ) → IsOrdered es w → (fuel i : ℕ) → i ≤ fuel → i < w
     → IsNoLater (entry_at es 0) (entry_at es i)
 front_first es w o zero i le within =
@@ -45,7 +45,7 @@ front_first es w o (suc fuel) i le within =
           subst P zero_i (no_later_itself (entry_at es 0))
     ]
 
--- so the front comes before each room that waits
+-- so the root comes before each waiting room
 pub first_of_all : (es : List Entry) (ps : List ℕ) (w : ℕ) (e : Entry) → IsQueue es ps w → 0 < w → e ≡ get_or es 0 e
     → (r : ℕ) (l : Label) → get_or (waiting_labels es ps w) r None ≡ Some l → IsBefore e.label e.room l r
 first_of_all es ps w e q some is r l waits =

@@ -1,4 +1,4 @@
--- What was found of two parts of a party is what is found of both.
+-- The labels found for two parts of a party are those of the whole party.
 use Rattle.std.proofs.Common.{◌≡◌, ℕ, ◌-◌, ◌<◌, ◌≤◌, inl, inr, List, [], ◌++◌, length, get_or, Option, None, Some}
 use Rattle.std.proofs.Common.{refl, sym, ◌∙◌, ap, subst, arith}
 use Rattle.std.specs.Prelude.{slice_get}
@@ -14,7 +14,7 @@ use Rattle.mud_search.specs.Tables.{Table, table}
 use Rattle.mud_search.specs.inner.Tables.{lists_in}
 use Rattle.mud_search.specs.inner.Travellers.{AreFound}
 
--- two tables, one after the other
+-- two tables, concatenated
 abbrev pub beside : Table (Option Label) → Table (Option Label) → Table (Option Label)
 beside a b = table (lists_in a ++ lists_in b)
 
@@ -31,7 +31,7 @@ label-back a b m room h =
     ap (λ row. get_or row room None)
     (get_or-append_right (lists_in a) (lists_in b) (length (lists_in a)) m [] refl h)
 
--- a member who stands before the first's end is one of the first
+-- a member before the end of the first list is one of the first
 member-front : {X : Type 0} → (xs ys : List X) (m : ℕ) (x : X) → m < length xs
     → slice_get (xs ++ ys) m ≡ Some x → slice_get xs m ≡ Some x
 member-front xs ys m x h is =
@@ -47,7 +47,7 @@ member-back xs ys m x h is =
     slice_get-get_or ys (m - length xs) x fits
     ∙ ap Some (sym (get_or-append_right xs ys (length xs) m x refl h) ∙ get_or_from_slice_get (xs ++ ys) m x x is)
 
--- what was found of two parts, one after the other, is what is found of both
+-- the labels found for two parts, concatenated, are those of the whole
 pub found-beside : (w : State) (xs ys : List Knowledge) (a b : Table (Option Label))
     → AreFound w xs a → AreFound w ys b → AreFound w (xs ++ ys) (beside a b)
 found-beside w xs ys a b front back = record {

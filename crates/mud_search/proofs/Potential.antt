@@ -1,4 +1,4 @@
--- What is left to do falls.
+-- The remaining work decreases.
 use Rattle.std.proofs.Common.{◌≡◌, ℕ, ◌+◌, ◌*◌, ◌<◌, ◌≤◌, Bool, true, false, List, [], ◌∷◌, length, set, Some, refl}
 use Rattle.std.proofs.Common.{sym, ◌∙◌, ap, subst, arith}
 use Rattle.std.specs.Prelude.{Contains, sum_by}
@@ -16,7 +16,7 @@ use Rattle.mud_search.proofs.Inside.{AreWithin}
 use Rattle.mud_search.proofs.Faithful.{below-from_test, faithful-lowered, label-bound, label-set_same, follows-offered}
 use Rattle.mud_search.proofs.Faithful.{follows-offers, here, there}
 
--- a lighter slot makes the whole lighter
+-- a lighter slot makes the sum lighter
 pub weight-set : (slots : List Slot) (d : ℕ) (v : Slot) → d < length slots → weight v ≤ weight (slot_at slots d)
     → sum_by weight (set slots d v) ≤ sum_by weight slots
 weight-set slots d v h low = omega (arith, sum_by-set weight slots d v Unknown h)
@@ -69,7 +69,7 @@ weight-offers roads from rooms inside few by l (s ∷ ss) those slots sound was 
           (offer l s slots) one.0.sound one.0.still,
     )
 
--- a room that is settled, and was not finished, makes the whole lighter
+-- finishing a room that was not finished makes the sum lighter
 pub weight-settled_left : (roads : Roads) (from rooms : ℕ) → AreWithin roads rooms
     → rooms ≤ NUMBERS → (room : ℕ) (l : Label)
     → (steps : List Step) → steps ≡ roads room

@@ -1,4 +1,4 @@
--- Trails: what they bound, and how they last.
+-- Trails: their bounds, and their preservation.
 use Rattle.std.proofs.Common.{◌≡◌, ℕ, suc, ◌*◌, ◌<◌, ◌≤◌, ◌⊎◌, inl, inr, Bool, true, false, List, [], ◌∷◌, ◌++◌, length}
 use Rattle.std.proofs.Common.{Option, Some, refl, ap, subst, arith}
 use Rattle.std.specs.Prelude.{sum_by, reverse, ◌==◌, ◌||◌}
@@ -20,7 +20,7 @@ use Rattle.mud_roads.proofs.Routes.{walk-snoc, label-ext}
 use Rattle.mud_search.specs.inner.Trails.{rooms_of_walk, is_in, Trail}
 use Rattle.mud_search.proofs.Inside.{AreWithin}
 
--- what reaches a room under the one labels does under the other
+-- a bound under the old labels is one under the new labels
 abbrev pub Falls : (ℕ → Option Label) → (ℕ → Option Label) → Type 0
 Falls earlier later = (room : ℕ) (l : Label) → Reaches earlier room l → Reaches later room l
 
@@ -34,7 +34,7 @@ total-longer : (s : Step) (ss : List Step) → AtMost (total 1 ss) (total 1 (s �
 total-longer s ss =
     (omega (arith, sum_by-cons (λ (x : Step). x.cost) s ss), λ e. omega (arith, sum_by-cons (λ (x : Step). 1) s ss))
 
--- each step counts as one
+-- each step counts one
 pub exits-length : (ss : List Step) → (total 1 ss).exits ≡ length ss
 exits-length [] = refl
 exits-length (s ∷ ss) = omega (arith, sum_by-cons (λ (x : Step). 1) s ss, exits-length ss)
@@ -47,7 +47,7 @@ or-none : (a b : Bool) → (a || b) ≡ false → (a ≡ false) × (b ≡ false)
 or-none true b h = absurd (cc)
 or-none false b h = (refl, h)
 
--- each room on a trail has a label no greater than the trail's
+-- each room on a trail has a label that is not greater than the trail's
 pub trail-reaches : (roads : Roads) (labels : ℕ → Option Label) (from : ℕ) → labels from ≡ Some start_label
     → (ss : List Step) (to : ℕ) → Trail roads labels from ss to → (q : ℕ) → is_in q (rooms_of_walk from ss) ≡ true
     → Reaches labels q (total 1 ss)
@@ -100,7 +100,7 @@ trail-cost roads labels from rooms w [] to t = omega arith
 trail-cost roads labels from rooms w (s ∷ ss) to (e, new, r, (by, c, t)) =
     omega (arith, sum_by-cons (λ (x : Step). x.cost) s ss, (w by s c).1, trail-cost roads labels from rooms w ss by t)
 
--- a trail, read forwards, is a walk
+-- a trail read forwards is a walk
 pub trail-walk : (roads : Roads) (labels : ℕ → Option Label) (from : ℕ)
     → (ss : List Step) (to : ℕ) → Trail roads labels from ss to → Walk roads from (reverse ss) to
 trail-walk roads labels from [] to t = t

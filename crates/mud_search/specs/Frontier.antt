@@ -1,4 +1,4 @@
--- What holds of the slots of a search, whoever took and put what.
+-- The invariant of a search, for any sequence of calls.
 use Rattle.std.specs.Prelude.{◌≡◌, ◌≢◌, ℕ, ◌<◌, ◌≤◌, List, Some, length, slice_get, Contains}
 use Rattle.mud_world.specs.State.{State}
 use Rattle.mud_world.specs.Sound.{IsSound}
@@ -12,7 +12,8 @@ use Rattle.mud_search.specs.declared.slot.Slot.TheVariants.{Unknown, Finished}
 use Rattle.mud_search.specs.Slots.{labels_of}
 use Rattle.mud_world.specs.declared.limits.TheConstants.{MOST_PARTY}
 
--- every label is that of a walk; the start is labelled 0; the steps out of a finished room lead to no greater labels
+-- every label is that of a walk; the start is labelled 0; a step out of a finished room leads to no greater label than
+-- the one after the step
 pub record IsFaithful (roads : Roads) (from : ℕ) (slots : ℕ → Slot) : Type 0 where
   pub walked : (room : ℕ) (l : Label) → labels_of slots room ≡ Some l
       → (ss : List Step) × Walk roads from ss room × (total 1 ss ≡ l)
@@ -20,7 +21,8 @@ pub record IsFaithful (roads : Roads) (from : ℕ) (slots : ℕ → Slot) : Type
   pub finished : (room : ℕ) (l : Label) (s : Step) → slots room ≡ Finished l → Contains (roads room) s
       → Reaches (labels_of slots) s.to (after 1 l s)
 
--- the world is sound, of at most 8 members only rooms are known, and the slots of each are faithful to his roads
+-- the world is sound, there are at most 8 members, only rooms are known, and each member's slots are faithful to its
+-- roads
 pub record IsFrontier (w : State) (ts : List Knowledge) (slots : ℕ → ℕ → Slot) : Type 0 where
   pub sound : IsSound w
   pub few : length ts ≤ MOST_PARTY

@@ -1,4 +1,4 @@
--- What is true of a frontier.
+-- The layout of a frontier in memory.
 use Rattle.std.specs.Prelude.{◌≡◌, ℕ, ◌≤◌}
 use Rattle.std.specs.Prelude.{List, length, Some, slice_get}
 use Rattle.mud_world.specs.declared.limits.TheConstants.{MOST_PARTY}
@@ -10,7 +10,7 @@ use Rattle.mud_search.specs.inner.Boards.{board_of, IsBoardOf}
 
 -- ---- the facts
 
--- how a frontier stands in memory. A reader need not look into this: `Frontier::facts` says what is to be known of it
+-- the layout of a frontier in memory. A reader need not look into this: `Frontier::facts` states its consequences
 pub record IsKept (w : State) (ts : List Knowledge) (boards : List (List Slot)) : Type 0 where
   pub sound : IsSound w
   pub count : length boards ≡ length ts

@@ -1,4 +1,4 @@
--- What a search knows of the rooms of all members.
+-- The state of the rooms of all members.
 use Rattle.std.specs.Prelude.{ℕ}
 use Rattle.mud_search.specs.declared.slot.Slot.{Slot}
 use Rattle.mud_search.specs.declared.slot.Slot.TheVariants.{Unknown}

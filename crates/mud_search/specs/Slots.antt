@@ -1,15 +1,15 @@
--- What a search knows of one room.
+-- The state of one room.
 use Rattle.std.specs.Prelude.{ℕ, Bool, true, false, Option, None, Some}
 use Rattle.mud_roads.specs.declared.label.Label.{Label}
 use Rattle.mud_search.specs.declared.slot.Slot.{Slot}
 use Rattle.mud_search.specs.declared.slot.Slot.TheVariants.{Unknown, Waiting, Held, Finished}
 
--- whether it waits
+-- true if it waits
 abbrev pub is_waiting : Slot → Bool
 is_waiting (Waiting l) = true
 is_waiting slot = false
 
--- whether it is held
+-- true if it is held
 abbrev pub is_held : Slot → Bool
 is_held (Held l) = true
 is_held slot = false

@@ -1,4 +1,4 @@
--- What the calls of a frontier do to its slots.
+-- The effects of a frontier's calls on its slots.
 use Rattle.std.specs.Prelude.{◌≡◌, ◌≢◌, ◌⊎◌, ℕ, ◌≤◌, List, Contains, Some, slice_get}
 use Rattle.mud_roads.specs.declared.label.Label.{Label}
 use Rattle.mud_roads.specs.declared.label.Step.{Step}
@@ -10,23 +10,24 @@ use Rattle.mud_search.specs.declared.slot.Slot.TheVariants.{Unknown, Waiting, Fi
 use Rattle.mud_search.specs.declared.task.Task.{Task}
 use Rattle.mud_search.specs.Slots.{labels_of}
 
--- each member's place waits, with the label of no cost and no exits, and no other room is known
+-- each member's place waits with cost 0 and no exits, and no other room is known
 pub record IsBegun (ts : List Knowledge) (slots : ℕ → ℕ → Slot) : Type 0 where
   pub place : (m : ℕ) (t : Knowledge) → slice_get ts m ≡ Some t → slots m t.place ≡ Waiting start_label
   pub others : (m room : ℕ) → ((t : Knowledge) → slice_get ts m ≡ Some t → room ≢ t.place) → slots m room ≡ Unknown
 
--- a member's room has this slot now, and all others are as before
+-- a member's room has this slot now, and all others are unchanged
 pub record IsChanged (old new : ℕ → ℕ → Slot) (m room : ℕ) (v : Slot) : Type 0 where
   pub here : new m room ≡ v
   pub others : (n q : ℕ) → (n ≢ m) ⊎ (q ≢ room) → new n q ≡ old n q
 
--- the task's room waits with its label, the least; of those alike it is of the first member, his lowest room
+-- the task's room waits with its label, the least; among equals it is that of the first member, then the lowest
 pub record IsFirst (slots : ℕ → ℕ → Slot) (t : Task) : Type 0 where
   pub is_waiting : slots t.member t.room ≡ Waiting t.label
   pub before : (m r : ℕ) (l : Label) → slots m r ≡ Waiting l
       → AtMost t.label l × (t.label ≡ l → (t.member ≤ m) × (t.member ≡ m → t.room ≤ r))
 
--- a settled task: its room is finished; another is as before, or waits with the lesser label of a step that leads there
+-- a finished task: its room is finished; any other is unchanged, or waits with the lesser label of a step that leads
+-- there
 pub record IsDone (old new : ℕ → ℕ → Slot) (t : Task) (steps : List Step) : Type 0 where
   pub was : labels_of (old t.member) t.room ≡ Some t.label
   pub finished : new t.member t.room ≡ Finished t.label

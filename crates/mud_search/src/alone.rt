@@ -1,4 +1,4 @@
-//! The least labels, by the caller's thread.
+//! Computes the least labels on the caller's thread.
 
 ghost use Rattle.std.specs.Prelude.{◌≡◌, ◌≤◌, ℕ, All, None, IfOk, length};
 ghost use Rattle.mud_roads.specs.Passable.{IsTraveller};
@@ -13,8 +13,8 @@ use mud_world::World;
 use std::alloc::{AllocError, Global};
 use std::marker::Brand;
 
-/// The least labels of up to eight travellers of this world, by the caller's thread. No label costs more than
-/// 81,910,000 or has more than 8,191 exits. The only error is out of memory.
+/// Returns the least labels of up to eight travellers of this world, computed on the caller's thread. Each cost is at
+/// most 81,910,000, and each number of exits at most 8,191. The only error is out of memory.
 pub fn labels_alone(
     alloc: Global,
     world: &World,
@@ -29,7 +29,7 @@ pub fn labels_alone(
     alone_for::<Brand>(alloc, world, travellers)
 }
 
-// The least labels of the travellers of a job.
+// Returns the least labels of a job's travellers.
 fn alone_for<J: Job>(
     alloc: Global,
     world: &World,

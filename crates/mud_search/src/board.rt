@@ -17,7 +17,7 @@ use mud_roads::{Label, Step};
 use std::alloc::{AllocError, Global};
 use std::marker::Model;
 
-// The slots of the rooms, with the waiting ones in order. A contract sees the slots.
+// The slots of the rooms, and a priority queue of the waiting ones. A contract sees the slots.
 #[derive(Drop)]
 pub(crate) struct Board {
     slots: Vec<Slot>,
@@ -39,7 +39,7 @@ impl Model for Board {
 }
 
 impl Board {
-    // So many rooms, all unknown.
+    // Returns a board of this many rooms, all unknown.
     pub(crate) fn new(alloc: Global, rooms: usize) -> Result<Self, AllocError>
         requires { rooms < 2 ^ 32 }
         ensures { IfOk result (λ b. b ≡ replicate rooms Slot.Unknown) }
@@ -54,7 +54,7 @@ impl Board {
         })
     }
 
-    // So many rooms, all unknown but the place, which waits.
+    // Returns a board of this many rooms. All are unknown except the place, which waits.
     pub(crate) fn start(alloc: Global, rooms: u32, place: u32) -> Result<Self, AllocError>
         requires { place < rooms }
         ensures { IfOk result (λ b. b ≡ slice_set (replicate rooms Slot.Unknown) place (Slot.Waiting start_label)) }
@@ -64,7 +64,7 @@ impl Board {
         Ok(board)
     }
 
-    // The slot of a room.
+    // Returns the slot of a room.
     pub(crate) fn slot(&self, room: usize) -> Slot
         requires { room < length self.now }
         ensures { slice_get self.now room ≡ Some result }
@@ -72,7 +72,7 @@ impl Board {
         self.slots[room]
     }
 
-    // The waiting room of least label, of these the lowest.
+    // Returns the waiting room with the least label; among equals, the lowest.
     pub(crate) fn least(&self) -> Option<(Label, u32)>
         ensures some { IfSome result (λ t. slot_at self.now t.1 ≡ Slot.Waiting t.0) }
         ensures least { IfSome result (λ t. (room : ℕ) (l : Label) → slot_at self.now room ≡ Slot.Waiting l
@@ -85,7 +85,7 @@ impl Board {
         }
     }
 
-    // Writes the slot of a room.
+    // Sets the slot of a room.
     pub(crate) fn mark(&mut self, room: u32, slot: Slot)
         requires { room < length self.old }
         ensures { self.new ≡ slice_set self.old room slot }
@@ -100,7 +100,8 @@ impl Board {
         self.order.set(room, waiting_label(slot));
     }
 
-    // Writes the label one step on where it leads, if that has none or a greater one.
+    // Offers the label after a step to the room where the step leads. The room takes it if it has none, or a greater
+    // one.
     fn offer(&mut self, label: Label, step: &Step)
         requires to { step.now.to < length self.old }
         requires cost { label.cost + step.now.cost < 2 ^ 32 }
@@ -117,7 +118,7 @@ impl Board {
         }
     }
 
-    // The label of a room; there is none past the last.
+    // Returns the label of a room, and none past the last room.
     pub(crate) fn label(&self, room: u32) -> Option<Label>
         ensures { result ≡ label_at self.now room }
     {
@@ -129,7 +130,7 @@ impl Board {
         }
     }
 
-    // The labels of the rooms below a number, by rising number.
+    // Returns the labels of the rooms below a number, sorted by number.
     pub(crate) fn labels_below(
         &self,
         alloc: Global,
@@ -137,7 +138,7 @@ impl Board {
     ) -> Result<Vec<(u32, Label)>, AllocError>
         ensures { IfOk result (λ found. AreLabelsBelow (label_at self.now) next found.items) }
     {
-        // as a slice, whose place need not be read again after each push
+        // a slice, so that the pointer is not loaded again after each push
         let slots = self.slots.as_slice();
         let end = slots.len().min(next as usize);
         let mut found = Vec::new(alloc);
@@ -149,7 +150,7 @@ impl Board {
         Ok(found)
     }
 
-    // Lets a room wait again that is held with this label. Says whether it was.
+    // Makes a room wait again if it is held with this label. Returns whether it was.
     pub(crate) fn release(&mut self, room: u32, label: Label) -> bool
         ensures held { OnTrue result ((slot_at self.old room ≡ Slot.Held label)
             × (self.new ≡ slice_set self.old room (Slot.Waiting label))) }
@@ -164,12 +165,12 @@ impl Board {
         }
     }
 
-    // A held room, if there is one.
+    // Returns a held room, if there is one.
     pub(crate) fn first_held(&self) -> Option<(Label, u32)>
         ensures some { IfSome result (λ t. slot_at self.now t.1 ≡ Slot.Held t.0) }
         ensures none { IfNone result ((room : ℕ) (l : Label) → slot_at self.now room ≡ Slot.Held l → ⊥) }
     {
-        // the count spares a look at every slot
+        // the count avoids a scan of all slots
         if self.held == 0 {
             return None;
         }
@@ -181,7 +182,7 @@ impl Board {
         None
     }
 
-    // How many rooms wait.
+    // Returns the number of waiting rooms.
     pub(crate) fn waiting_count(&self) -> usize
         ensures waiting { result ≡ count_by is_waiting self.now }
         ensures few { result < 2 ^ 32 }
@@ -189,7 +190,7 @@ impl Board {
         self.waiting
     }
 
-    // How many rooms are held.
+    // Returns the number of held rooms.
     pub(crate) fn held_count(&self) -> usize
         ensures held { result ≡ count_by is_held self.now }
         ensures few { result < 2 ^ 32 }
@@ -197,7 +198,7 @@ impl Board {
         self.held
     }
 
-    // Follows all steps of a room with this label.
+    // Relaxes all steps out of a room with this label.
     fn follow(&mut self, label: Label, steps: &[Step])
         requires cost { label.cost + MOST_COST < 2 ^ 32 }
         requires exits { label.exits + 1 < 2 ^ 32 }
@@ -210,7 +211,7 @@ impl Board {
         }
     }
 
-    // Follows all steps of a room that has this label, and finishes it. Says whether it has.
+    // Relaxes all steps out of a room that has this label, and finishes the room. Returns whether it has the label.
     pub(crate) fn settle(&mut self, room: u32, label: Label, steps: &[Step]) -> bool
         requires bound { (l : Label) → label_at self.old room ≡ Some l
             → (l.cost + MOST_COST < 2 ^ 32) × (l.exits + 1 < 2 ^ 32) }
@@ -229,7 +230,7 @@ impl Board {
     }
 }
 
-// So many slots, all unknown.
+// Returns this many slots, all unknown.
 fn unknown_slots(alloc: Global, rooms: usize) -> Result<Vec<Slot>, AllocError>
     ensures { IfOk result (λ slots. slots.items ≡ replicate rooms Slot.Unknown) }
 {
@@ -238,7 +239,7 @@ fn unknown_slots(alloc: Global, rooms: usize) -> Result<Vec<Slot>, AllocError>
     Ok(slots)
 }
 
-// The label of a waiting slot.
+// Returns the label of a waiting slot.
 fn waiting_label(slot: Slot) -> Option<Label>
     ensures { result ≡ waiting_label slot }
 {
@@ -248,7 +249,7 @@ fn waiting_label(slot: Slot) -> Option<Label>
     }
 }
 
-// Whether the label is new, or less than the one before.
+// Returns whether the label is new, or less than the one before.
 fn falls(next: Label, before: Option<Label>) -> bool
     ensures { result ≡ falls next before }
 {

@@ -1,4 +1,4 @@
-//! The labels that were found.
+//! The result of a search.
 
 ghost use Rattle.std.specs.Prelude.{◌≡◌, ◌++◌, map, IfOk, OnOk, OnErr};
 ghost use Rattle.mud_search.specs.Slots.{label_of};
@@ -11,8 +11,7 @@ use mud_roads::Label;
 use std::alloc::{AllocError, Global};
 use std::marker::Model;
 
-/// The labels of each member of a party at each room. A contract sees a label, or none, for each
-/// member and room.
+/// The labels of each member of a party at each room. A contract sees a label, or none, for each member and room.
 #[derive(Drop)]
 pub struct Labels {
     boards: Vec<Board>,
@@ -34,14 +33,14 @@ impl Model for Labels {
 }
 
 impl Labels {
-    // The labels that the boards have.
+    // Returns the labels of the boards.
     pub(crate) fn of(boards: Vec<Board>) -> Labels
         ensures { result ≡ table (map (map label_of) boards.items) }
     {
         Labels { boards }
     }
 
-    // Puts the labels of further members after these, which stay as they are where memory runs out.
+    // Appends the labels of further members. If an allocation fails, nothing changes.
     pub(crate) fn append(&mut self, other: Labels) -> Result<(), AllocError>
         ensures ok { OnOk result (lists_in self.new ≡ lists_in self.old ++ lists_in other) }
         ensures err { OnErr result (self.new ≡ self.old) }
@@ -50,8 +49,8 @@ impl Labels {
         self.boards.append(&mut boards)
     }
 
-    /// The label of a member at a room: the cost and the number of exits of a walk there. None
-    /// where no walk of his leads there, and past the last member and the last number.
+    /// Returns the label of a member at a room: the cost and the number of exits of a walk there. There is none if no
+    /// walk of the member leads there, and past the last member or number.
     pub fn get(&self, member: usize, room: u32) -> Option<Label>
         ensures { result ≡ label_in self.now member room }
     {
@@ -62,7 +61,7 @@ impl Labels {
         }
     }
 
-    /// The labels of a member at the numbers below `next`, each with its number, by rising number. There are none past
+    /// Returns the labels of a member at the numbers below `next`, each with its number, sorted. There are none past
     /// the last member. The only error is out of memory.
     pub fn below(
         &self,

@@ -1,4 +1,4 @@
-//! The rooms of all members.
+//! The rooms of all members during a search.
 
 ghost use Rattle.std.specs.Prelude.{◌≡◌, ◌≢◌, ℕ, ◌<◌, ◌≤◌, All, IfOk, IfSome, IfNone, None, Some, length, slice_get};
 ghost use Rattle.mud_roads.specs.declared.label.Label.{Label};
@@ -25,10 +25,9 @@ use mud_world::World;
 use std::alloc::{AllocError, Global};
 use std::marker::{Model, PhantomData};
 
-/// The rooms of all members of a party while a search goes on. A contract sees a slot for each
-/// member and room, Unknown past the last. Its facts hold after every call (`IsFrontier`): each label is that of a
-/// walk, a member's place has the label of no cost and no exits, and no step out of a finished room
-/// leads to a greater label than its own.
+/// The rooms of all members of a party during a search. A contract sees a slot for each member and room, and Unknown
+/// past the last. Its invariant (`IsFrontier`) holds after every call. Each label is that of a walk, a member's place
+/// has cost 0 and no exits, and no step out of a finished room leads to a greater label than the one after the step.
 #[derive(Drop)]
 pub struct Frontier<J: Job> {
     boards: Vec<Board>,
@@ -51,8 +50,8 @@ impl<J: Job> Model for Frontier<J> {
 }
 
 impl<J: Job> Frontier<J> {
-    /// The beginning: of each member's rooms his place waits, with the label of no cost and no exits, and no other is
-    /// known. Takes all memory that later calls need. The only error is out of memory.
+    /// Returns the initial frontier: each member's place waits with cost 0 and no exits, and no other room is known. It
+    /// allocates all memory that later calls need. The only error is out of memory.
     pub fn new(alloc: Global, world: &World, travellers: &[Traveller]) -> Result<Self, AllocError>
         requires world { world.now ≡ J.world }
         requires travellers { travellers.now ≡ J.travellers }
@@ -71,7 +70,7 @@ impl<J: Job> Frontier<J> {
         })
     }
 
-    // The waiting room of least label; of these the first member's, of these the lowest.
+    // Returns the waiting room with the least label; among equals, that of the first member, then the lowest.
     fn first(&self) -> Option<Task>
         ensures some { IfSome result (λ t. IsFirst (slot_in self.now) t) }
         ensures none { IfNone result ((m r : ℕ) (l : Label) → slot_in self.now m r ≡ Slot.Waiting l → ⊥) }
@@ -84,8 +83,8 @@ impl<J: Job> Frontier<J> {
         best
     }
 
-    /// Takes the waiting room of least label, of these the first member's, of these the lowest; it is
-    /// held from then on. None where no room waits.
+    /// Takes the waiting room with the least label; among equals, that of the first member, then the lowest. The room
+    /// becomes held. Returns `None` if no room waits.
     pub fn take(&mut self) -> Option<Task>
         ensures some { IfSome result (λ t. IsFirst (slot_in self.old) t
             × IsChanged (slot_in self.old) (slot_in self.new) t.member t.room (Slot.Held t.label)) }
@@ -98,10 +97,9 @@ impl<J: Job> Frontier<J> {
         Some(task)
     }
 
-    /// Gives a room back that was looked at, with the steps of all exits out of it that are open to
-    /// the member. Where it still has the task's label, each step offers the label one step on to
-    /// the room where it leads, which takes it if it has none or a greater one and waits then,
-    /// and the task's room is finished. Otherwise nothing changes.
+    /// Returns a room to the frontier, with the steps of all its exits that are open to the member. If the room still
+    /// has the task's label, each step offers the label after it to the room where it leads. That room takes the label
+    /// if it has none or a greater one, and then waits. The task's room is finished. Otherwise nothing changes.
     pub fn put(&mut self, task: &Task, steps: &[Step]) -> Put
         requires steps { (t : Knowledge) → slice_get J.travellers task.now.member ≡ Some t
             → steps.now ≡ roads_of J.world t.player task.now.room }
@@ -113,7 +111,7 @@ impl<J: Job> Frontier<J> {
         self.settle(task, steps)
     }
 
-    // Finishes the task's room as `put` does, and promises more: less is left to do where the room waited or was held.
+    // Finishes the task's room like `put`, and promises more: less work is left if the room waited or was held.
     fn settle(&mut self, task: &Task, steps: &[Step]) -> Put
         requires steps { (t : Knowledge) → slice_get J.travellers task.now.member ≡ Some t
             → steps.now ≡ roads_of J.world t.player task.now.room }
@@ -133,7 +131,7 @@ impl<J: Job> Frontier<J> {
         }
     }
 
-    /// Lets the task's room wait again, if it is held with the task's label. Otherwise nothing changes.
+    /// Makes the task's room wait again, if it is held with the task's label. Otherwise nothing changes.
     pub fn back(&mut self, task: &Task)
         ensures held { slot_in self.old task.now.member task.now.room ≡ Slot.Held task.now.label
             → IsChanged (slot_in self.old) (slot_in self.new) task.now.member task.now.room
@@ -146,15 +144,15 @@ impl<J: Job> Frontier<J> {
         }
     }
 
-    /// The facts of the type, for contracts only: whatever was taken and put, they hold.
+    /// States the invariant of the type, for contracts only: it holds after any sequence of calls.
     pub fn facts(&self)
         ensures { IsFrontier J.world J.travellers (slot_in self.now) }
     {
-        // for the prover: reading the field says what is true of every frontier
+        // for the prover: reading the field makes the invariant of every frontier known
         let _known = &self.boards;
     }
 
-    /// How many rooms wait and how many are held. Where both are 0, the labels are the least.
+    /// Returns the numbers of waiting and of held rooms. If both are 0, the labels are the least.
     pub fn rest(&self) -> Rest
         ensures waiting { result.waiting ≡ how_many is_waiting self.now }
         ensures held { result.held ≡ how_many is_held self.now }
@@ -170,7 +168,7 @@ impl<J: Job> Frontier<J> {
         Rest { waiting, held }
     }
 
-    // A held room, if there is one.
+    // Returns a held room, if there is one.
     fn first_held(&self) -> Option<Task>
         ensures some { IfSome result (λ t. slot_in self.now t.member t.room ≡ Slot.Held t.label) }
         ensures member { IfSome result (λ t. t.member < length (lists_in self.now)) }
@@ -188,14 +186,14 @@ impl<J: Job> Frontier<J> {
         None
     }
 
-    // A waiting room, or else a held one, once nobody is at work. Where there is none the labels are
-    // the least.
+    // Returns a waiting room, or else a held one, once no worker is active. If there is neither, the labels are the
+    // least.
     fn next_left(&self) -> Option<Task>
         ensures some { IfSome result (λ t. IsLeft (slot_in self.now) t) }
         ensures member { IfSome result (λ t. t.member < length J.travellers) }
         ensures none { IfNone result (AreLeast J.world J.travellers (λ m. labels_of (slot_in self.now m))) }
     {
-        // for the prover: reading the field says what is true of every frontier
+        // for the prover: reading the field makes the invariant of every frontier known
         let _known = &self.boards;
         match self.first() {
             Some(task) => Some(task),
@@ -203,7 +201,7 @@ impl<J: Job> Frontier<J> {
         }
     }
 
-    /// Does alone what is left to do, held rooms too. It takes no memory.
+    /// Finishes all remaining work on this thread, including held rooms. It does not allocate.
     pub fn finish(&mut self, travellers: &[Traveller])
         requires travellers { travellers.now ≡ J.travellers }
         requires these { All (IsTraveller J.world) J.travellers }
@@ -212,7 +210,7 @@ impl<J: Job> Frontier<J> {
         self.finish_by(travellers, Part::whole(0), &OpenGate);
     }
 
-    // Does alone what is left to do, as the first worker of a part, who passes the gate with each room.
+    // Finishes all remaining work on this thread, as the first worker of a part, and passes the gate with each room.
     pub(crate) fn finish_by<G: Gate>(&mut self, travellers: &[Traveller], part: Part, gate: &G)
         requires travellers { travellers.now ≡ J.travellers }
         requires these { All (IsTraveller J.world) J.travellers }
@@ -225,7 +223,7 @@ impl<J: Job> Frontier<J> {
         }
     }
 
-    /// The labels as they are.
+    /// Returns the present labels.
     pub fn into_labels(self) -> Labels
         ensures labels { (m room : ℕ) → label_in result m room ≡ labels_of (slot_in self m) room }
         ensures members { (m room : ℕ) → length J.travellers ≤ m → label_in result m room ≡ None }
@@ -234,7 +232,7 @@ impl<J: Job> Frontier<J> {
         self.into_member_labels()
     }
 
-    // The labels as they are, a list for each member.
+    // Returns the present labels, a list for each member.
     pub(crate) fn into_member_labels(self) -> Labels
         ensures labels { (m room : ℕ) → label_in result m room ≡ labels_of (slot_in self m) room }
         ensures count { length (lists_in result) ≡ length J.travellers }
@@ -245,7 +243,7 @@ impl<J: Job> Frontier<J> {
     }
 }
 
-// The task with the lesser label, of a task and what a later member has.
+// Returns the task with the lesser label: the given one, or that of a later member.
 fn lesser(best: Option<Task>, member: usize, found: Option<(Label, u32)>) -> Option<Task>
     ensures { result ≡ lesser best member found }
 {

@@ -1,14 +1,13 @@
-//! What workers of a search pass between taking a room and giving it back.
+//! A hook between taking a room and returning it.
 
-/// What a worker passes each time that it has taken a room, before it gives the room back. Nothing
-/// is locked meanwhile. Workers and members are numbered from 0 on. A gate that returns holds the
-/// search up and changes none of its labels.
+/// A hook that each worker calls after it has taken a room, before it returns the room. No lock is held during the
+/// call. Workers and members are numbered from 0. A gate may delay the search, and can't change its labels.
 pub trait Gate {
-    /// Lets a worker with a room of a member pass.
+    /// Called by a worker with a member's room.
     fn between(&self, worker: usize, member: usize, room: u32);
 }
 
-/// A gate through which all pass at once.
+/// A gate that does nothing.
 #[derive(Clone, Copy, Debug, Drop)]
 pub struct OpenGate;
 

@@ -1,9 +1,9 @@
-//! What a search is of, for contracts only.
+//! The subject of a search, for contracts only.
 
 use std::marker::Brand;
 
-/// One world and its travellers, for contracts only: so the type of a [`Frontier`](crate::Frontier) says what its facts
-/// are of.
+/// A world and its travellers, for contracts only. With it the type of a [`Frontier`](crate::Frontier) says to which
+/// world its invariant refers.
 pub trait Job {
     ghost use Rattle.std.specs.Prelude.{List};
     ghost use Rattle.mud_world.specs.State.{State};

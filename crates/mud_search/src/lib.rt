@@ -1,24 +1,21 @@
-//! The least labels of a party: for each traveller and each room the cost and the number of exits
-//! of his least walk there.
+//! Computes the least labels of a party: for each traveller and each room, the cost and the number of exits of a least
+//! walk there.
 //!
-//! | Call | Answer |
+//! | Call | Result |
 //! |---|---|
-//! | [`labels_alone`] | the least labels of up to eight travellers, by the caller's thread |
-//! | [`labels`] | the same, by several workers, who pass a [`Gate`] with each room |
-//! | [`last_share`] | how many members, or workers, the last of several parts gets |
+//! | [`labels_alone`] | the least labels of up to eight travellers, computed on the caller's thread |
+//! | [`labels`] | the same, computed by several workers that pass a [`Gate`] with each room |
+//! | [`last_share`] | the share of members, or of workers, that the last of several parts gets |
 //! | [`Labels::get`] | the least label of a member at a room |
-//! | [`Labels::below`] | all least labels of a member below a number, by rising number |
-//! | [`Frontier`] | the rooms of all members while a search goes on: what waits, is held, is finished |
+//! | [`Labels::below`] | all least labels of a member below a number, sorted by number |
+//! | [`Frontier`] | the rooms of all members during a search: waiting, held or finished |
 //!
-//! The search takes the waiting room of least label again and again, and offers its label, one step
-//! on, to each room that its open exits lead to (E. W. Dijkstra, "A note on two problems in
-//! connexion with graphs", 1959). A [`Frontier`] is right whoever takes rooms and gives them back,
-//! and in whatever order: a task whose room has had a lesser label since is stale and changes
-//! nothing.
+//! The search repeatedly takes the waiting room with the least label, and relaxes its open exits (E. W. Dijkstra, "A
+//! note on two problems in connexion with graphs", 1959). A [`Frontier`] is correct for any interleaving of workers
+//! that take and return rooms: a task whose room has got a lesser label since is stale, and has no effect.
 //!
-//! Proved is that the labels are the least (`AreLeast` in specs/Least.antt, over the walks of
-//! mud_roads) and bounded, that the facts of a frontier hold after every call, what each call
-//! changes, and that `labels_alone` ends.
+//! Proved: the labels are the least (`AreLeast` in specs/Least.antt, over the walks of mud_roads) and bounded. The
+//! invariant of a frontier holds after every call, and each call has the stated effect. `labels_alone` terminates.
 //!
 //! ```text
 //! let traveller = Traveller::of(alloc, &world, 1)?;

@@ -1,4 +1,4 @@
-//! The limit of the workers.
+//! Limits of the workers.
 
-/// How many workers search at most, the caller's thread among them (docs/GUIDE.md, "Several workers").
+/// The greatest number of workers of a search, including the caller's thread (docs/GUIDE.md, "Several workers").
 pub const MOST_WORKERS: usize = 8;

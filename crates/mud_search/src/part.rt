@@ -1,10 +1,9 @@
-//! A part of a search.
+//! Parts of a search.
 
 use crate::gate::Gate;
 use crate::task::Task;
 
-/// Which workers search for which members: a number of workers, from one number on, and members from one number on.
-/// Within the part both are counted from 0.
+/// A range of workers and a range of members to search for. Inside a part both are counted from 0.
 #[derive(Clone, Copy, Debug, Drop)]
 pub(crate) struct Part {
     pub(crate) workers: usize,
@@ -13,7 +12,7 @@ pub(crate) struct Part {
 }
 
 impl Part {
-    /// All members, and N workers.
+    /// Returns the part with all members and `workers` workers.
     pub(crate) fn whole(workers: usize) -> Part {
         Part {
             workers,
@@ -22,7 +21,7 @@ impl Part {
         }
     }
 
-    /// The first members, and the first workers: all but the last N.
+    /// Returns the part with the first members, and all workers but the last N.
     pub(crate) fn front(self, workers_behind: usize) -> Part {
         Part {
             workers: self.workers.saturating_sub(workers_behind),
@@ -30,7 +29,7 @@ impl Part {
         }
     }
 
-    /// The members after the first M, and the last N workers.
+    /// Returns the part with the members after the first M, and the last N workers.
     pub(crate) fn back(self, members: usize, workers_behind: usize) -> Part {
         let before = self.workers.saturating_sub(workers_behind);
         Part {
@@ -40,7 +39,7 @@ impl Part {
         }
     }
 
-    /// Lets a worker pass the gate with a room. Where there are no workers nobody passes.
+    /// Calls the gate for a worker with a room. Without workers it is not called.
     pub(crate) fn pass<G: Gate>(self, gate: &G, worker: usize, task: &Task) {
         if self.workers > 0 {
             let worker = self.first_worker.saturating_add(worker);

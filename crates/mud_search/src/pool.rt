@@ -12,23 +12,23 @@ use std::sync::atomic::{AtomicBool, Ordering};
 use std::sync::{Condvar, Mutex, Wait};
 use std::time::Duration;
 
-// A frontier under a lock. Nothing but its calls is done while the lock is held.
+// A frontier under a lock. Only the frontier's own calls are made while the lock is held.
 pub(crate) struct Pool<J: Job> {
     frontier: Mutex<Frontier<J>>,
-    // tells those that rest of the end
+    // wakes the resting workers at the end
     news: Condvar,
-    // whether the end was seen
+    // true once a worker has seen the end
     ended: AtomicBool,
 }
 
-// What a worker does next.
+// The next action of a worker.
 #[derive(Clone, Copy, Drop)]
 pub(crate) enum Next {
-    // It looks at a room.
+    // Relax a room.
     Room(Task),
-    // It rests: no room waits, or another worker is at the frontier.
+    // Rest: no room waits, or another worker has the lock.
     Rest,
-    // It ends: no room waits and none is held.
+    // End: no room waits, and none is held.
     End,
 }
 
@@ -41,7 +41,7 @@ impl<J: Job> Pool<J> {
         }
     }
 
-    // Takes a room, if there is one and no other worker is at the frontier.
+    // Takes a room, if there is one and no other worker has the lock.
     pub(crate) fn take(&self) -> Next
         ensures { (t : Task) → result ≡ Next.Room t → t.member < length J.travellers }
     {
@@ -51,7 +51,7 @@ impl<J: Job> Pool<J> {
         next_of(&mut frontier)
     }
 
-    // Gives a room back, and takes the next, if there is one and no other worker is at the frontier.
+    // Returns a room, and takes the next one, if there is one and no other worker has the lock.
     pub(crate) fn exchange<R: Wait>(&self, rt: &R, task: &Task, steps: &[Step]) -> Next
         requires steps { (t : Knowledge) → slice_get J.travellers task.now.member ≡ Some t
             → steps.now ≡ roads_of J.world t.player task.now.room }
@@ -65,7 +65,7 @@ impl<J: Job> Pool<J> {
         self.take()
     }
 
-    // Rests for so many microseconds, or until the end.
+    // Rests for `pause` microseconds, or until the end.
     pub(crate) fn rest<R: Wait>(&self, rt: &R, pause: u64) {
         let seen = self.news.notifications();
         if !self.has_ended() {
@@ -73,18 +73,18 @@ impl<J: Job> Pool<J> {
         }
     }
 
-    // Tells all that the end was seen.
+    // Tells all workers that the end was seen.
     pub(crate) fn end(&self) {
         self.ended.store(true, Ordering::SeqCst);
         self.news.notify_all();
     }
 
-    // Whether the end was seen.
+    // Returns whether the end was seen.
     pub(crate) fn has_ended(&self) -> bool {
         self.ended.load(Ordering::SeqCst)
     }
 
-    // The frontier, once nobody shares it.
+    // Returns the frontier once it is no longer shared.
     pub(crate) fn into_frontier(self) -> Frontier<J> {
         let Pool {
             frontier,

@@ -1,4 +1,4 @@
-//! The waiting rooms in order of their labels. A change takes no memory.
+//! A priority queue of the waiting rooms. Updates do not allocate.
 
 ghost use Rattle.std.specs.Prelude.{◌≡◌, ℕ, ◌+◌, ◌-◌, ◌*◌, ◌/◌, ◌^◌, ◌<◌, ◌≤◌, IfOk, IfSome, IfNone, Option, length};
 ghost use Rattle.std.specs.Prelude.{slice_set, slice_index_or, replicate};
@@ -17,19 +17,18 @@ pub(crate) struct Entry {
     pub(crate) room: u32,
 }
 
-// The entries of all rooms, and where each room's entry stands.
+// The entries of all rooms, and the index of each room's entry.
 #[derive(Drop)]
 struct Heap {
-    // every room once: first those that wait, as a heap, then the others, whose labels mean nothing
+    // every room once: the waiting ones first, as a heap, then the others, whose labels are meaningless
     entries: Vec<Entry>,
-    // where each room stands among the entries
+    // the index of each room among the entries
     places: Vec<u32>,
-    // how many wait
+    // the number of waiting rooms
     waiting: usize,
 }
 
-// The rooms that wait, each with its label. A contract sees for each room its label, or none where
-// it does not wait.
+// The waiting rooms with their labels. A contract sees for each room its label, or none if it does not wait.
 #[derive(Drop)]
 pub(crate) struct Queue {
     heap: Heap,
@@ -48,7 +47,7 @@ impl Model for Queue {
 }
 
 impl Queue {
-    // So many rooms, none of which waits.
+    // Returns a queue of this many rooms; no room waits.
     pub(crate) fn new(alloc: Global, rooms: usize) -> Result<Self, AllocError>
         requires few { rooms < 2 ^ 32 }
         ensures { IfOk result (λ q. q ≡ replicate rooms None) }
@@ -70,7 +69,7 @@ impl Queue {
         })
     }
 
-    // The room of least label, of these the lowest.
+    // Returns the room with the least label; among equals, the lowest.
     pub(crate) fn first(&self) -> Option<Entry>
         ensures some { IfSome result (λ e. slice_index_or self.now e.room None ≡ Some e.label) }
         ensures least { IfSome result (λ e. (room : ℕ) (l : Label) → slice_index_or self.now room None ≡ Some l
@@ -84,7 +83,7 @@ impl Queue {
         }
     }
 
-    // From now on the room waits with this label, or does not wait.
+    // Makes the room wait with this label, or not wait.
     pub(crate) fn set(&mut self, room: u32, label: Option<Label>)
         requires { room < length self.old }
         ensures { self.new ≡ slice_set self.old room label }
@@ -95,7 +94,7 @@ impl Queue {
         }
     }
 
-    // From now on the room waits with this label.
+    // Makes the room wait with this label.
     fn add(&mut self, room: u32, label: Label)
         requires { room < length self.old }
         ensures { self.new ≡ slice_set self.old room (Some label) }
@@ -105,7 +104,7 @@ impl Queue {
         self.heap.mend(at);
     }
 
-    // From now on the room does not wait.
+    // Makes the room not wait.
     fn remove(&mut self, room: u32)
         requires { room < length self.old }
         ensures { self.new ≡ slice_set self.old room None }
@@ -121,7 +120,7 @@ impl Heap {
     ghost use Rattle.mud_search.specs.inner.Queues.{entry_at, heap_labels, IsNoLater, IsMatched, IsQueue, IsOrderedBut};
     ghost use Rattle.mud_search.specs.inner.Queues.{IsOrderedDownTo, IsFirstBelow, IsSwapped};
 
-    // Brings a room to those that wait, and says where it stands; its label means nothing yet.
+    // Moves a room to the waiting ones, and returns its index. Its label is meaningless until it is set.
     fn admit(&mut self, room: u32) -> usize
         requires queue { IsQueue self.old.entries.items self.old.places.items self.old.waiting }
         requires room { room < length self.old.entries.items }
@@ -143,7 +142,7 @@ impl Heap {
         last
     }
 
-    // Takes the room at this place from those that wait.
+    // Removes the room at this index from the waiting ones.
     fn dismiss(&mut self, at: usize)
         requires queue { IsQueue self.old.entries.items self.old.places.items self.old.waiting }
         requires within { at < self.old.waiting }
@@ -159,7 +158,7 @@ impl Heap {
         }
     }
 
-    // Puts the rooms in order after the entry at this place was changed.
+    // Restores the heap order after the entry at this index changed.
     fn mend(&mut self, at: usize)
         requires matched { IsMatched self.old.entries.items self.old.places.items }
         requires fits { self.old.waiting ≤ length self.old.entries.items }
@@ -172,7 +171,7 @@ impl Heap {
         self.sink(top);
     }
 
-    // Swaps the entry with the one above it while it comes before that one. Says where it ends.
+    // Swaps the entry with its parent while it comes before that. Returns its final index.
     fn rise(&mut self, from: usize) -> usize
         requires matched { IsMatched self.old.entries.items self.old.places.items }
         requires fits { self.old.waiting ≤ length self.old.entries.items }
@@ -196,7 +195,7 @@ impl Heap {
         at
     }
 
-    // Moves the entry down, and each first of those below it up, while that one comes before it.
+    // Moves the entry down, and the lesser child up, while the child comes before it.
     fn sink(&mut self, from: usize)
         requires matched { IsMatched self.old.entries.items self.old.places.items }
         requires fits { self.old.waiting ≤ length self.old.entries.items }
@@ -215,7 +214,7 @@ impl Heap {
         self.put(at, entry);
     }
 
-    // Where the first of those below a place stands, if it comes before the entry.
+    // Returns the index of the lesser child, if that comes before the entry.
     fn sooner_below(&self, at: usize, entry: Entry) -> Option<usize>
         requires within { at < self.now.waiting }
         requires fits { self.now.waiting ≤ length self.now.entries.items }
@@ -236,7 +235,7 @@ impl Heap {
         }
     }
 
-    // Where the first of the one or two entries below a place stands.
+    // Returns the index of the lesser of the one or two children.
     fn first_below(&self, at: usize) -> usize
         requires some { 2 * at + 1 < self.now.waiting }
         requires fits { self.now.waiting ≤ length self.now.entries.items }
@@ -249,11 +248,11 @@ impl Heap {
             return left;
         }
         let is_right = comes_before(&self.entries[right], &self.entries[left]);
-        // a sum, not a choice: which of the two comes first can't be foreseen
+        // a sum instead of a branch: the outcome of the comparison is unpredictable
         left + usize::from(is_right)
     }
 
-    // Puts an entry at a place.
+    // Sets the entry at an index.
     fn put(&mut self, at: usize, entry: Entry)
         requires place { at < length self.old.entries.items }
         requires room { entry.room < length self.old.places.items }
@@ -284,7 +283,7 @@ impl Heap {
     }
 }
 
-// Whether an entry comes before another: by cost, then by exits, then by room.
+// Returns whether an entry comes before another: by cost, then by exits, then by room.
 fn comes_before(a: &Entry, b: &Entry) -> bool
     ensures first { OnTrue result (IsBefore a.now.label a.now.room b.now.label b.now.room) }
     ensures later { OnFalse result (IsBefore b.now.label b.now.room a.now.label a.now.room) }

@@ -1,9 +1,9 @@
-//! Shares of a party and of its workers.
+//! Divides a party, or its workers.
 
 ghost use Rattle.std.specs.Prelude.{◌≡◌, ◌<◌, ◌≤◌, ◌/◌};
 
-/// How many of so many the last of `among` gets: an equal share, rounded down, but one at least.
-/// The others get the rest, which is some.
+/// Returns the share of the last of `among` parts of `of`: an equal share, rounded down, but at least one. The others
+/// get the rest, which is not empty.
 pub fn last_share(of: usize, among: usize) -> usize
     requires of { 2 ≤ of }
     requires among { 2 ≤ among }

@@ -1,4 +1,4 @@
-//! The least labels, by several workers.
+//! Computes the least labels by several workers.
 
 ghost use Rattle.std.specs.Prelude.{◌≡◌, ◌≤◌, ℕ, All, None, IfOk, length};
 ghost use Rattle.std.specs.Thread.{IsSync};
@@ -21,11 +21,11 @@ use std::marker::Brand;
 use std::sync::Wait;
 use std::thread::{Threads, join};
 
-/// The least labels of up to eight travellers of this world, by N workers; with none it does what
-/// [`labels_alone`](crate::labels_alone) does. The caller's thread is the first worker, and the others are threads of
-/// their own; it is no fault where they can't be started. Members are searched for apart as far as there are workers
-/// for them, and several workers for one member share his rooms. The labels are the same for every number of workers
-/// and every gate. It may wait, and ends if the gate lets all workers pass. The only error is out of memory.
+/// Returns the least labels of up to eight travellers of this world, computed by N workers; with none it is
+/// [`labels_alone`](crate::labels_alone). The caller's thread is the first worker, and the others are new threads. If a
+/// thread can't be started, the others do its work. Members are searched separately as far as there are workers, and
+/// several workers for one member share that member's rooms. The labels do not depend on the number of workers or on
+/// the gate. It may block, and returns if the gate lets all workers pass. The only error is out of memory.
 pub fn labels<R: Threads + Wait + Sync, G: Gate + Sync>(
     rt: &R,
     alloc: Global,
@@ -43,8 +43,8 @@ pub fn labels<R: Threads + Wait + Sync, G: Gate + Sync>(
     labels_apart(rt, alloc, world, travellers, Part::whole(workers), gate)
 }
 
-// The labels of a part: those of its last members apart, by the last workers, as long as it has two
-// members and two workers. So the caller's thread starts them all, and is the first worker.
+// Returns the labels of a part. While the part has two members and two workers, its last members are split off for the
+// last workers. So the caller's thread starts all threads, and is the first worker.
 fn labels_apart<R: Threads + Wait + Sync, G: Gate + Sync>(
     rt: &R,
     alloc: Global,
@@ -82,7 +82,7 @@ fn labels_apart<R: Threads + Wait + Sync, G: Gate + Sync>(
     Ok(labels)
 }
 
-// The labels of a part from one frontier.
+// Returns the labels of a part, computed from one frontier.
 fn labels_together<R: Threads + Wait + Sync, G: Gate + Sync>(
     rt: &R,
     alloc: Global,
@@ -98,7 +98,7 @@ fn labels_together<R: Threads + Wait + Sync, G: Gate + Sync>(
     together_for::<Brand, R, G>(rt, alloc, world, travellers, part, gate)
 }
 
-// The labels of the travellers of a job.
+// Returns the labels of a job's travellers.
 fn together_for<J: Job + Send + Sync, R: Threads + Wait + Sync, G: Gate + Sync>(
     rt: &R,
     alloc: Global,

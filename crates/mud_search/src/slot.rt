@@ -1,39 +1,39 @@
-//! What is known of a room.
+//! The state of a room in a search.
 
 ghost use Rattle.std.specs.Prelude.{◌≡◌};
 ghost use Rattle.mud_search.specs.Slots.{is_waiting, is_held, label_of};
 
 use mud_roads::Label;
 
-/// What a search knows of a room.
+/// The state of a room in a search.
 #[derive(Clone, Copy, Debug, PartialEq, Eq, Drop)]
 pub enum Slot {
-    /// No walk there is known.
+    /// No walk to it is known.
     Unknown,
-    /// It has a label, with which it was not looked at yet.
+    /// It has a label, and was not yet relaxed with it.
     Waiting(Label),
-    /// It has a label, and was taken to be looked at.
+    /// It has a label, and a worker has taken it.
     Held(Label),
-    /// It has a label, with which it was looked at.
+    /// It has a label, and was relaxed with it.
     Finished(Label),
 }
 
 impl Slot {
-    /// Whether it waits.
+    /// Returns whether it waits.
     pub fn is_waiting(&self) -> bool
         ensures { result ≡ is_waiting self.now }
     {
         matches!(self, Slot::Waiting(_))
     }
 
-    /// Whether it is held.
+    /// Returns whether it is held.
     pub fn is_held(&self) -> bool
         ensures { result ≡ is_held self.now }
     {
         matches!(self, Slot::Held(_))
     }
 
-    /// Its label, if it has one.
+    /// Returns its label, if it has one.
     pub fn label(&self) -> Option<Label>
         ensures { result ≡ label_of self.now }
     {

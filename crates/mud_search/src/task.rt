@@ -1,32 +1,32 @@
-//! What is taken from a frontier, and what becomes of it.
+//! Tasks of a frontier, and their outcomes.
 
 use mud_roads::Label;
 
-/// A room to look at, and the label that it had when it was taken.
+/// A room to relax, and its label at the time it was taken.
 #[derive(Clone, Copy, Debug, PartialEq, Eq, Drop)]
 pub struct Task {
-    /// Whose room it is: the place of the member in the party, from 0 on.
+    /// The index of the member in the party, from 0.
     pub member: usize,
     /// The number of the room.
     pub room: u32,
-    /// The label that it had.
+    /// Its label at that time.
     pub label: Label,
 }
 
-/// What became of a task that was put back.
+/// The outcome of returning a task.
 #[derive(Clone, Copy, Debug, PartialEq, Eq, Drop)]
 pub enum Put {
-    /// The room still had the task's label; it is finished, and its steps were followed.
+    /// The room still had the task's label. Its steps were relaxed, and it is finished.
     Done,
     /// The room has another label, or none; nothing changed.
     Stale,
 }
 
-/// How much is still to be done.
+/// The remaining work.
 #[derive(Clone, Copy, Debug, PartialEq, Eq, Drop)]
 pub struct Rest {
-    /// How many rooms wait.
+    /// The number of waiting rooms.
     pub waiting: usize,
-    /// How many rooms are held.
+    /// The number of held rooms.
     pub held: usize,
 }

@@ -1,4 +1,4 @@
-//! Several workers at one frontier.
+//! Several workers on one frontier.
 
 ghost use Rattle.std.specs.Prelude.{◌≡◌, ◌<◌, All};
 ghost use Rattle.mud_roads.specs.Passable.{IsTraveller};
@@ -13,22 +13,22 @@ use std::sync::Wait;
 use std::thread;
 use std::thread::Threads;
 
-// How many microseconds a worker rests who is not needed: at least, and at most.
+// The shortest and the longest rest of an idle worker, in microseconds.
 const SHORT_REST: u64 = 100;
 
 const LONG_REST: u64 = 1600;
 
-// A shorter rest, after a room: so some twenty rooms make up for a rest.
+// Returns a shorter rest, after a room. About twenty rooms compensate for one rest.
 fn shorter(pause: u64) -> u64 {
     pause.saturating_sub(pause / 32).max(SHORT_REST)
 }
 
-// A rest twice as long.
+// Returns a rest twice as long.
 fn longer(pause: u64) -> u64 {
     pause.saturating_mul(2).min(LONG_REST)
 }
 
-// Takes rooms and gives them back with their steps, until none waits and none is held.
+// Takes rooms and returns them with their steps, until none waits and none is held.
 fn work<J: Job, R: Wait, G: Gate>(
     rt: &R,
     travellers: &[Traveller],
@@ -63,8 +63,8 @@ fn work<J: Job, R: Wait, G: Gate>(
     }
 }
 
-// Works as the workers from the second on: this thread is the second, and the others are threads
-// of their own, one after the other, as far as they can be started before the end.
+// Runs all workers but the first. This thread is the second, and the others are new threads, started one after another
+// as long as the search has not ended.
 fn work_beside<'a, J: Job + Send + Sync, R: Threads + Wait + Sync, G: Gate + Sync>(
     rt: &'a R,
     travellers: &'a [Traveller],
@@ -97,8 +97,8 @@ fn work_beside<'a, J: Job + Send + Sync, R: Threads + Wait + Sync, G: Gate + Syn
     );
 }
 
-// Works as all workers: the caller's thread is the first, and a thread of its own, if it can be
-// started, is the second and starts the others.
+// Runs all workers. The caller's thread is the first. A new thread, if it can be started, is the second and starts the
+// others.
 fn work_all<'a, J: Job + Send + Sync, R: Threads + Wait + Sync, G: Gate + Sync>(
     rt: &'a R,
     travellers: &'a [Traveller],
@@ -125,8 +125,7 @@ fn work_all<'a, J: Job + Send + Sync, R: Threads + Wait + Sync, G: Gate + Sync>(
     );
 }
 
-/// Lets all workers of a part work at the frontier until none finds anything to do. What they leave
-/// is for the caller.
+/// Runs all workers of a part on the frontier until none finds work. The caller finishes the rest.
 pub(crate) fn work_together<J: Job + Send + Sync, R: Threads + Wait + Sync, G: Gate + Sync>(
     rt: &R,
     travellers: &[Traveller],

@@ -1,14 +1,14 @@
-//! The console: what a host types while the server runs.
+//! The console: the host types here while the server runs.
 
 use mud_server::StopSign;
 use std::io::{Eprint, ErrorKind, Read};
 use std::rt::Runtime;
 use std::sync::Wait;
 
-// How many bytes are read at once.
+// The number of bytes of one read.
 const PIECE_LEN: usize = 512;
 
-/// A line as far as it was typed: its first bytes, and how many it has. No line takes more memory than another.
+/// The line typed so far: its first bytes, and its length. Every line takes the same memory.
 #[derive(Drop)]
 struct Line {
     front: [u8; 5],
@@ -16,7 +16,7 @@ struct Line {
 }
 
 impl Line {
-    // A line of which nothing was typed.
+    // Returns the empty line.
     fn new() -> Line {
         Line {
             front: [0; 5],
@@ -24,7 +24,7 @@ impl Line {
         }
     }
 
-    // One byte more.
+    // Appends one byte.
     fn push(&mut self, byte: u8) {
         if self.len < self.front.len() {
             self.front[self.len] = byte;
@@ -32,7 +32,7 @@ impl Line {
         self.len = self.len.saturating_add(1);
     }
 
-    // Whether it is `stop`, with or without a CR.
+    // Returns whether the line is `stop`, with or without a CR.
     fn is_stop(&self) -> bool {
         match self.len {
             4 => matches!(self.front, [b's', b't', b'o', b'p', _]),
@@ -42,7 +42,7 @@ impl Line {
     }
 }
 
-// Takes typed bytes in, and answers each line that is not understood; whether the server is to end.
+// Consumes typed bytes, and answers each line that is not understood. Returns whether the server should stop.
 fn take<R: Eprint>(rt: &R, line: &mut Line, bytes: &[u8]) -> bool {
     for byte in bytes {
         if *byte != b'\n' {
@@ -57,7 +57,7 @@ fn take<R: Eprint>(rt: &R, line: &mut Line, bytes: &[u8]) -> bool {
     false
 }
 
-// Reads what is typed until the server is to end: at the word, at the end of the input, or where it can't be read.
+// Reads the console until the server should stop: at the word, at the end of the input, or after a failed read.
 fn read_all<R: Runtime + Wait>(rt: &R) {
     let mut input = rt.reader();
     let mut line = Line::new();
@@ -76,7 +76,7 @@ fn read_all<R: Runtime + Wait>(rt: &R) {
     }
 }
 
-/// Reads the console until the server is to end, and sets the sign.
+/// Reads the console until the server should stop, and sets the shutdown flag.
 pub(crate) fn watch<R: Runtime + Wait>(rt: &R, sign: &StopSign) {
     read_all(rt);
     sign.set();

@@ -1,4 +1,4 @@
-//! The log of a server, which holds nobody up.
+//! The log of a server. Logging never blocks.
 
 use log::kv::Source;
 use log::span::Spans;
@@ -10,28 +10,28 @@ use std::sync::atomic::AtomicU64;
 use std::sync::{Condvar, Mutex, Wait};
 use std::time::Duration;
 
-// How many lines wait at most for standard error.
+// The greatest number of lines that wait for standard error.
 const MOST_LINES: usize = 1024;
 
-// How often it is looked, once the server has ended, whether all lines are written, and how long it rests between.
+// After the end of the server, the number of checks whether all lines are written, and the rest between two checks.
 const LAST_LOOKS: u32 = 100;
 
 const LOOK_MILLISECONDS: u64 = 10;
 
-/// The lines of a log that standard error has not taken yet.
+/// The lines of a log that are not written to standard error yet.
 #[derive(Drop)]
 struct Waiting {
-    // The first of them come first.
+    // The lines in order.
     lines: Vec<String>,
-    // How many lines were dropped after them.
+    // The number of lines dropped after them.
     dropped: u64,
-    // Whether lines that were here are being written.
+    // True while a thread writes lines taken from here.
     is_writing: bool,
 }
 
-/// A log whose lines a thread of its own writes to standard error. Whoever logs waits for nothing but its lock, under
-/// which nothing is written: where too many lines wait, or memory ran out, a line is dropped and counted, and the next
-/// that goes out says how many were.
+/// A log whose lines a thread of its own writes to standard error. A thread that logs waits only for the log's lock,
+/// and no thread writes while it holds that lock. If too many lines wait, or an allocation fails, a line is dropped and
+/// counted, and the next line written reports the count.
 #[derive(Drop)]
 pub(crate) struct Logbook<R> {
     rt: R,
@@ -40,7 +40,7 @@ pub(crate) struct Logbook<R> {
 }
 
 impl Waiting {
-    // No lines.
+    // Returns the empty queue.
     fn new(alloc: Global) -> Waiting {
         Waiting {
             lines: Vec::new(alloc),
@@ -49,7 +49,7 @@ impl Waiting {
         }
     }
 
-    // One more line, if there is room.
+    // Appends a line, if there is room.
     fn push(&mut self, line: Option<String>) {
         let has_room = self.dropped == 0 && self.lines.len() < MOST_LINES;
         let was_taken = match line {
@@ -61,14 +61,14 @@ impl Waiting {
         }
     }
 
-    // Whether there is nothing to be written.
+    // Returns whether there is nothing to write.
     fn is_empty(&self) -> bool {
         self.lines.is_empty() && self.dropped == 0
     }
 }
 
 impl<R: AllocGlobal + Eprint + Wait> Logbook<R> {
-    /// A log without lines.
+    /// Returns a log without lines.
     pub(crate) fn new(rt: R) -> Logbook<R> {
         let waiting = Waiting::new(rt.alloc());
         Logbook {
@@ -78,14 +78,14 @@ impl<R: AllocGlobal + Eprint + Wait> Logbook<R> {
         }
     }
 
-    // One more line.
+    // Appends a line.
     fn add<D: Display>(&self, line: &D) {
         let text = format!(in self.rt.alloc(); "{line}").ok();
         self.waiting.lock(&self.rt).push(text);
         self.work.notify_one();
     }
 
-    // The lines to be written next, once there are some.
+    // Returns the next lines to write, once there are some.
     fn next(&self) -> Waiting {
         let mut waiting = self.waiting.lock(&self.rt);
         for _ in self.rt.forever() {
@@ -100,7 +100,7 @@ impl<R: AllocGlobal + Eprint + Wait> Logbook<R> {
         std::mem::replace(&mut *waiting, rest)
     }
 
-    /// Writes the lines as they come. It never ends.
+    /// Writes lines as they come. It never returns.
     pub(crate) fn write_all(&self) {
         for _ in self.rt.forever() {
             let taken = self.next();
@@ -114,7 +114,7 @@ impl<R: AllocGlobal + Eprint + Wait> Logbook<R> {
         }
     }
 
-    /// Waits until all lines are written, a second at most.
+    /// Waits until all lines are written, for at most one second.
     pub(crate) fn settle(&self) {
         for _ in 0..LAST_LOOKS {
             let waiting = self.waiting.lock(&self.rt);

@@ -1,11 +1,11 @@
 //! `mud_serve`: a server of text worlds.
 //!
-//! `mud_serve script` answers the lines of standard input; `mud_serve listen` serves players who come by Telnet or from
-//! a browser. docs/SERVER.md has the command lines and the statuses.
+//! `mud_serve script` answers the lines of standard input. `mud_serve listen` serves players who connect by Telnet or
+//! from a browser. docs/SERVER.md has the command lines and the exit statuses.
 //!
-//! Threads: the main thread runs the server of `mud_server`. Two more live as long as the program: one writes the log
-//! to standard error, so that no thread of the server blocks on it, and one reads the console from standard input and
-//! sets the sign that stops the server. The log's lines stand in a bounded queue under a lock; the sign is atomic.
+//! Threads: the main thread runs the server of `mud_server`. Two more live as long as the program. One writes the log
+//! to standard error, so that no thread of the server blocks on it. The other reads the console from standard input and
+//! sets the stop flag. A bounded queue under a lock has the log's lines; the flag is atomic.
 #![tactic(auto)]
 
 mod console;
@@ -26,7 +26,7 @@ use std::process::ExitCode;
 use std::sync::{Arc, Wait};
 use std::thread;
 
-// The block of memory that is freed before all else.
+// The size of the block that is freed before everything else.
 const FREED_BYTES: usize = 1 << 20;
 
 fn main(rt: HostRuntime) -> ExitCode {
@@ -52,7 +52,7 @@ fn main(rt: HostRuntime) -> ExitCode {
         sign,
         their_sign,
     } = staff;
-    // Nobody waits for these two threads: the program ends while they wait.
+    // The program does not join these two threads: it ends while they wait.
     if thread::spawn(&rt, move || their_book.write_all()).is_err()
         || listening.console && thread::spawn(&rt, move || watch(&rt, &their_sign)).is_err()
     {
@@ -64,7 +64,7 @@ fn main(rt: HostRuntime) -> ExitCode {
     status_of(&rt, ended)
 }
 
-/// What a server shares with the thread that writes its log, and the one that reads the console.
+/// The state shared with the thread that writes the log, and the thread that reads the console.
 #[derive(Drop)]
 struct Staff<R> {
     book: Arc<Logbook<R>>,
@@ -74,7 +74,7 @@ struct Staff<R> {
 }
 
 impl<R: AllocGlobal + Eprint + Wait + Drop> Staff<R> {
-    // An empty log and a sign that isn't set, each for two threads; none where memory ran out.
+    // Returns an empty log and a shutdown flag that is not set, each for two threads, or none if an allocation fails.
     fn new(rt: R, alloc: Global) -> Option<Staff<R>> {
         let book = Arc::new(alloc, Logbook::new(rt)).ok()?;
         let their_book = Arc::try_clone(&book).ok()?;
@@ -89,12 +89,12 @@ impl<R: AllocGlobal + Eprint + Wait + Drop> Staff<R> {
     }
 }
 
-// The sign that the console sets, where there is a console.
+// Returns the flag that the console sets, if there is a console.
 fn sign_for<'s>(listening: Listening<'_>, sign: &'s StopSign) -> Option<&'s StopSign> {
     if listening.console { Some(sign) } else { None }
 }
 
-// The status of the program after what was asked for was done, or stopped.
+// Returns the exit status after the task was done, or stopped.
 fn status_of<R: Eprint>(rt: &R, ended: Result<(), Stop>) -> ExitCode {
     match ended {
         Ok(()) => ExitCode::SUCCESS,
@@ -102,14 +102,14 @@ fn status_of<R: Eprint>(rt: &R, ended: Result<(), Stop>) -> ExitCode {
     }
 }
 
-// Has the C library keep more of what is freed: at the end of its memory as much as twice the greatest block that was
-// freed so far. A route in a full world asks for half a megabyte and frees it, and another asks for it again. Where the
-// block is refused, all goes on without.
+// Makes the C library keep more freed memory: at the end of its heap, twice the size of the greatest block that was
+// freed so far. A route in a full world allocates half a megabyte and frees it, and the next one allocates it again. If
+// the block can't be allocated, this has no effect.
 fn keep_freed(alloc: Global) {
     let _ = Vec::<u8>::with_capacity(alloc, FREED_BYTES);
 }
 
-// Says why the words ask for nothing, or what they ask to be told, and answers the status.
+// Prints why the words name no task, or the help or version that they ask for. Returns the exit status.
 fn tell_fault<R: Print + Eprint>(rt: &R, fault: CommandFault) -> ExitCode {
     match fault {
         CommandFault::OutOfMemory => tell_stop(rt, Stop::OutOfMemory),
@@ -121,7 +121,7 @@ fn tell_fault<R: Print + Eprint>(rt: &R, fault: CommandFault) -> ExitCode {
     }
 }
 
-// Says why the program stopped, where that can be said, and answers its status.
+// Prints why the program stopped, ignoring a failed write. Returns the exit status.
 fn tell_stop<R: Eprint>(rt: &R, stop: Stop) -> ExitCode {
     let _ = eprintln!(rt; "mud_serve: {stop}");
     ExitCode::from(stop.status())

@@ -49,7 +49,7 @@ pub(crate) fn answer<R: Runtime + AllocGlobal + Threads + Wait + Sync>(
     }
 }
 
-// The entries that a world goes on from.
+// Returns the entries that a world continues.
 fn load_entries<R: Runtime + AllocGlobal>(rt: &R, file: Option<&str>) -> Result<Vec<Entry>, Stop> {
     match file {
         None => Ok(Vec::new(rt.alloc())),
@@ -60,8 +60,8 @@ fn load_entries<R: Runtime + AllocGlobal>(rt: &R, file: Option<&str>) -> Result<
     }
 }
 
-// The entries that a world with a journal goes on from: those that the journal has, or those of the file where it has
-// none.
+// Returns the entries that a world with a journal continues: those of the journal, or those of the file if the journal
+// has none.
 fn go_on_from<R: Runtime + AllocGlobal>(
     rt: &R,
     file: Option<&str>,
@@ -79,7 +79,7 @@ fn go_on_from<R: Runtime + AllocGlobal>(
     load_entries(rt, file)
 }
 
-// Says how much of the journal's end is no whole line.
+// Prints the number of torn bytes at the journal's end.
 fn tell_torn<R: Eprint>(rt: &R, torn: usize) {
     let _ = match torn {
         0 => Ok(()),
@@ -88,7 +88,7 @@ fn tell_torn<R: Eprint>(rt: &R, torn: usize) {
     };
 }
 
-// The listener at this address and port.
+// Returns the listener at this address and port.
 fn bind<R: Net<Listener = TcpListener, Stream = TcpStream>>(
     rt: &R,
     address: &str,
@@ -103,7 +103,7 @@ fn bind<R: Net<Listener = TcpListener, Stream = TcpStream>>(
     }
 }
 
-// The door on the web that was asked for.
+// Returns the web listener that was asked for.
 fn web_door<R: AllocGlobal + Net<Listener = TcpListener, Stream = TcpStream>>(
     rt: &R,
     web: WebListening<'_>,
@@ -117,7 +117,7 @@ fn web_door<R: AllocGlobal + Net<Listener = TcpListener, Stream = TcpStream>>(
     })
 }
 
-// The doors that were asked for.
+// Returns the listeners that were asked for.
 fn doors<R: AllocGlobal + Net<Listener = TcpListener, Stream = TcpStream>>(
     rt: &R,
     listening: Listening<'_>,
@@ -130,7 +130,7 @@ fn doors<R: AllocGlobal + Net<Listener = TcpListener, Stream = TcpStream>>(
     Ok(Doors { telnet, web })
 }
 
-/// Serves connections. The files of the journal and of the history are read before the port is taken.
+/// Serves connections. It reads the files of the journal and of the history before it binds the port.
 pub(crate) fn listen<
     R: Runtime
         + AllocGlobal
@@ -191,7 +191,7 @@ fn keep_nothing<
     }
 }
 
-// Serves connections, and keeps the world in the journal of this name.
+// Serves connections, and keeps the world in the journal with this name.
 fn keep_journal<
     R: Runtime
         + AllocGlobal
@@ -223,8 +223,9 @@ fn keep_journal<
     keep_entries(rt, listening, limits, sign, entries, found)
 }
 
-// Serves connections from these entries on, and keeps the world in the journal that was found. The disk is any: the
-// borrow checker of the prover does not take the journal's own file beside what lives for ever, as the page does.
+// Serves connections, beginning with these entries, and keeps the world in the journal that was found. It is generic in
+// the disk: the prover's borrow checker does not accept the journal's file beside a value that lives forever, such as
+// the page.
 fn keep_entries<
     D: Disk + Drop,
     R: Runtime

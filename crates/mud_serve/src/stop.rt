@@ -1,4 +1,4 @@
-//! Why the program stopped.
+//! The reasons why the program stopped.
 
 use mud_history_file::Unloaded;
 use mud_journal::OpenFault;
@@ -7,28 +7,28 @@ use mud_session::ScriptFault;
 use std::io::ErrorKind;
 use thiserror::Error;
 
-/// Why a port can't be had.
+/// The reason why a port is not available.
 #[derive(Clone, Copy, Debug, Error)]
 pub(crate) enum NoPort {
-    /// Another program has it.
+    /// Another program uses it.
     #[error("in use")]
     InUse,
-    /// This user may not have it.
+    /// This user is not allowed to use it.
     #[error("permission denied")]
     Denied,
     /// This machine does not have the address.
     #[error("no such address")]
     NoSuchAddress,
-    /// The address is none of IPv4 or IPv6: names are not looked up.
+    /// The address is neither IPv4 nor IPv6. Names are not looked up.
     #[error("not an IP address")]
     NotIp,
-    /// The system says so.
+    /// Any other reason of the system.
     #[error("{0}")]
     Other(ErrorKind),
 }
 
 impl NoPort {
-    /// Why the system did not give a port.
+    /// Returns the reason why the system did not give a port.
     pub(crate) fn of(kind: ErrorKind) -> NoPort {
         match kind {
             ErrorKind::AddrInUse => NoPort::InUse,
@@ -39,10 +39,10 @@ impl NoPort {
     }
 }
 
-/// Why the program stopped.
+/// The reason why the program stopped.
 #[derive(Clone, Copy, Debug, Error)]
 pub(crate) enum Stop {
-    /// Memory ran out.
+    /// An allocation failed.
     #[error("out of memory")]
     OutOfMemory,
     /// Standard input can't be read.
@@ -51,34 +51,34 @@ pub(crate) enum Stop {
     /// Standard output can't be written.
     #[error("write fault")]
     Write,
-    /// Standard input came in too many pieces.
+    /// Standard input needed too many reads.
     #[error("too many reads")]
     TooManyReads,
-    /// A port can't be had, for this reason.
+    /// A port is not available, for this reason.
     #[error("cannot listen on port {0}: {1}")]
     Port(u16, NoPort),
-    /// No connection can be taken any more.
+    /// No further connection can be accepted.
     #[error("cannot listen")]
     Listen,
     /// The desks of the sessions did not make one history.
     #[error("cannot settle")]
     Settle,
-    /// The journal takes no more.
+    /// The journal failed.
     #[error("journal fault")]
     Journal,
-    /// The world does not go on from the file.
+    /// The world can't continue the file.
     #[error("cannot load: {0}")]
     Load(Unloaded),
-    /// The world does not go on from what is in the file of the journal, or another server has it.
+    /// The world can't continue the file of the journal, or another server uses it.
     #[error("cannot open journal: {0}")]
     Open(OpenFault),
-    /// A history was to be loaded, and the journal has one already.
+    /// A history was to be loaded, and the journal already has one.
     #[error("journal is not empty")]
     NotEmpty,
 }
 
 impl Stop {
-    /// Why a script stopped.
+    /// Returns the reason why a script stopped.
     pub(crate) fn of_script(fault: ScriptFault) -> Stop {
         match fault {
             ScriptFault::OutOfMemory => Stop::OutOfMemory,
@@ -88,7 +88,7 @@ impl Stop {
         }
     }
 
-    /// Why nothing was loaded.
+    /// Returns the reason why nothing was loaded.
     pub(crate) fn of_load(fault: Unloaded) -> Stop {
         match fault {
             Unloaded::OutOfMemory => Stop::OutOfMemory,
@@ -96,7 +96,7 @@ impl Stop {
         }
     }
 
-    /// Why there is no journal.
+    /// Returns the reason why there is no journal.
     pub(crate) fn of_opening(fault: OpenFault) -> Stop {
         match fault {
             OpenFault::OutOfMemory => Stop::OutOfMemory,
@@ -104,7 +104,7 @@ impl Stop {
         }
     }
 
-    /// Why a server ended.
+    /// Returns the reason why a server ended.
     pub(crate) fn of_listening(fault: &ServerFault) -> Stop {
         match fault {
             ServerFault::OutOfMemory => Stop::OutOfMemory,
@@ -117,7 +117,7 @@ impl Stop {
         }
     }
 
-    /// The status of the program.
+    /// Returns the exit status of the program.
     pub(crate) fn status(self) -> u8 {
         match self {
             Stop::OutOfMemory => 4,

@@ -1,4 +1,4 @@
--- What the thread that serves the connections is begun with may cross threads.
+-- The values for the thread that serves the connections may cross threads.
 use denote.Param.Send.{IsSend, sendable}
 use denote.Ref.{NamedLft}
 use Rattle.std.proofs.Crossing.{crosses}

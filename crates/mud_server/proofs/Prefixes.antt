@@ -1,4 +1,4 @@
--- What goes on from what goes on from a list.
+-- Being a prefix is transitive.
 use Rattle.std.proofs.Common.{List}
 use mathlib.Core.List.{IsPrefix}
 use Rattle.mud_server_end.proofs.Keeping.{prefix_trans as prefixes}

@@ -32,8 +32,8 @@ use std::thread;
 use std::thread::{JoinHandle, Threads};
 use std::time::Clock;
 
-// Writes the journal as it is asked for, until the gate is closed, and wakes the notice threads after each sync. Where
-// it fails, they are woken, too; the thread that takes connections looks for that by itself.
+// Writes the journal as requested, until the gate is closed, and wakes the notice threads after each sync. If the
+// journal fails, they are woken too; the accepting thread checks for that by itself.
 #[tactic(auto, using(crate::proofs::Prefixes::prefix_trans))]
 fn write_all<J: HallName, D: Disk + Drop, R: Wait>(
     rt: &R,
@@ -61,8 +61,8 @@ fn write_all<J: HallName, D: Disk + Drop, R: Wait>(
     unreachable!()
 }
 
-// What the thread that serves the connections is begun with: where they come, and when it ends. It is one struct, since
-// the prover's search for what may cross threads gives up on a closure that takes many things along.
+// The values for the thread that serves the connections: the listeners, and the condition for its end. It is one
+// struct, because the prover's search for types that may cross threads gives up on a closure that captures many values.
 #[derive(Drop)]
 struct Serving<'s> {
     listeners: Listeners,
@@ -70,7 +70,8 @@ struct Serving<'s> {
     stop: Option<&'s StopSign>,
 }
 
-// Serves the connections; whether all were served that were to be. At its end nobody asks for more of the journal.
+// Serves the connections. Returns whether all sessions were served that should be. At its end no thread requests more
+// of the journal.
 fn serve_and_close<'s, E, J, R>(server: &Server<'s, E, J, R>, serving: Serving<'s>) -> bool
 where
     J: HallName + Send + Sync + 's,
@@ -93,7 +94,7 @@ where
     is_served
 }
 
-// Begins the thread that serves the connections.
+// Starts the thread that serves the connections.
 fn begin_serving<'s, E, J, R>(
     server: &Server<'s, E, J, R>,
     serving: Serving<'s>,
@@ -107,8 +108,8 @@ where
     begun.ok()
 }
 
-// Begins the thread that serves the connections, writes the journal, and waits until that thread has ended; the
-// journal, and whether all were served that were to be.
+// Starts the thread that serves the connections, writes the journal, and waits until that thread has ended. Returns the
+// journal, and whether all sessions were served that should be.
 fn serve_and_write<'s, E, J, D, R>(
     server: &Server<'s, E, J, R>,
     listeners: Listeners,
@@ -166,8 +167,8 @@ fn serve_journaled<
     })
 }
 
-// Serves in the hall, which J names, and settles; the history, the journal, and whether all were served that were to
-// be. What the hall began with is in the journal.
+// Serves in the hall, which J names, and settles it. Returns the history, the journal, and whether all sessions were
+// served that should be. The journal has the initial entries of the hall.
 fn serve_all<J: HallName + Send + Sync, D: Disk + Drop, R: Threads + Wait + Log + Clock + Sync>(
     rt: &R,
     alloc: Global,
@@ -209,7 +210,7 @@ fn serve_all<J: HallName + Send + Sync, D: Disk + Drop, R: Threads + Wait + Log 
     Ok((history, journal, is_well))
 }
 
-// Serves in a hall that has no name yet, as `serve_all`: this call picks the name.
+// Serves in a hall that has no name yet, like `serve_all`: this call picks the name.
 fn serve<D: Disk + Drop, R: Threads + Wait + Log + Clock + Sync>(
     rt: &R,
     alloc: Global,
@@ -232,7 +233,7 @@ fn serve<D: Disk + Drop, R: Threads + Wait + Log + Clock + Sync>(
     serve_all::<Brand, D, R>(rt, alloc, hall, doors, limits, stop, journal)
 }
 
-// Copies of the entries.
+// Returns copies of the entries.
 fn copies(alloc: Global, entries: &[Entry]) -> Result<Vec<Entry>, AllocError>
     ensures { IfOk result (λ v. v.items ≡ entries.now) }
 {
@@ -243,12 +244,12 @@ fn copies(alloc: Global, entries: &[Entry]) -> Result<Vec<Entry>, AllocError>
     Ok(copies)
 }
 
-/// Serves as [`crate::listen_on`], and keeps the history in a journal on a disk while it runs. The first of the loaded
-/// entries were found there; it is written anew with all of them before the port is. What names a version waits for its
-/// sync, by the type of what is held. With Ok the journal has the whole history that is written.
+/// Serves like [`crate::listen_on`], and keeps the history in a journal on a disk while it runs. The first of the
+/// loaded entries were found there. The journal is rewritten with all of them before the ports are named. By its type,
+/// a text that names a version waits for its sync. With Ok the journal has the whole history that is written.
 ///
-/// `Load` comes before anything is written, also to the journal. With `Open` the journal is what it was, or has all
-/// that was loaded. After `Journal` all sessions have ended.
+/// `Load` comes before anything is written, also to the journal. After `Open` the journal has its old contents, or all
+/// loaded entries. After `Journal` all sessions have ended.
 pub fn listen_journaled<
     D: Disk + Drop,
     R: Threads + Wait + Log + Clock + Sync + AllocGlobal,

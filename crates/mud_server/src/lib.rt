@@ -1,11 +1,11 @@
-//! A server of one hall: sessions over connections, many at once.
+//! A server of one hall: many sessions at a time, over connections.
 //!
-//! [`listen_on`] serves those who come by Telnet or from a browser, each by a session of its own at a desk of one hall,
-//! and at the end settles the hall and writes its history. docs/SERVER.md says which threads there are, what they lock,
-//! who wakes whom, and how all of it ends.
+//! [`listen_on`] serves Telnet connections and browsers, each with a session of its own at a desk of one hall. At the
+//! end it closes the hall and writes its history. docs/SERVER.md has the threads, their locks, which thread wakes
+//! which, and how all of them end.
 //!
 //! Threads: the caller's thread writes the journal, and owns it. One more accepts connections, and owns the listeners;
-//! it begins those of `mud_server_threads`. All of them end before the call returns, and none outlives the shared
+//! it starts those of `mud_server_threads`. All of them end before the call returns, and none outlives the shared
 //! state, which the caller's thread owns.
 //!
 //! ```
@@ -17,10 +17,10 @@
 //! listen_on(&rt, doors, limits, Vec::new(rt.alloc()), None, &mut sink)?;
 //! ```
 //!
-//! Proved: what is written. With Ok it is the lines that name the ports, and the text of a history that can be loaded
-//! again, that begins with what was loaded, and to which no more desks have added than sessions are served at once;
-//! after a fault a beginning of such a text. No contract says that the history is what the sessions did, that a session
-//! is served at all, that a change wakes anybody or that a desk is handed back: tests show it.
+//! Proved: the output. With Ok it is the lines that name the ports, and the text of a history. That history can be
+//! loaded again, begins with the loaded entries, and has no more desks after them than simultaneous sessions. After a
+//! fault the output is a prefix of such a text. No contract states that the history is that of the sessions, that any
+//! session is served, that a change wakes a thread, or that a desk is returned; tests show it.
 #![tactic(auto)]
 
 mod journaled;

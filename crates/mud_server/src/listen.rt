@@ -1,4 +1,4 @@
-//! The server: connections, their threads, and the settlement.
+//! The server: it accepts connections, runs their threads, and settles.
 
 ghost use Rattle.std.specs.Prelude.{◌≡◌, ◌≤◌, ◌<◌, true, Err, IfOk, IfErr, OnOk, OnErr};
 ghost use Rattle.std.specs.Prelude.{ℕ, List, IfNone, IsSome, IsTrue, is_some};
@@ -27,7 +27,7 @@ use std::thread;
 use std::thread::{Scope, Threads};
 use std::time::Clock;
 
-// Whether there is a sign, and it is set.
+// Returns whether there is a stop flag, and it is set.
 fn is_set(stop: Option<&StopSign>) -> bool
     ensures { IsTrue result → IsSome stop.entry }
 {
@@ -37,7 +37,7 @@ fn is_set(stop: Option<&StopSign>) -> bool
     }
 }
 
-// Whether no session may begin any more: the sign is set, or as many count as the total says.
+// Returns whether no further session may begin: the stop flag is set, or the total is reached.
 fn is_done(stop: Option<&StopSign>, total: u32, count: u32) -> bool
     ensures { IsTrue result → IfNone stop.entry (0 < total) }
 {
@@ -48,8 +48,8 @@ fn is_done(stop: Option<&StopSign>, total: u32, count: u32) -> bool
 }
 
 // Accepts connections and begins their sessions until no further session may begin, and then closes the listeners.
-// Returns false where a listener failed for good, or the journal did. A connection that is accepted after the sign was
-// set gets no session.
+// Returns false if a listener failed for good, or the journal did. A connection that is accepted after the stop flag
+// was set gets no session.
 fn accept_all<'s, E, J, R>(
     server: &Server<'s, E, J, R>,
     arrivals: Arrivals,
@@ -77,7 +77,7 @@ where
     unreachable!()
 }
 
-// Takes connections as long as it may, and sees the sessions out.
+// Accepts connections as long as it may, and waits for the sessions to end.
 fn take_and_see_out<'s, E, J, R>(
     scope: &'s Scope<'s, E>,
     rt: &'s R,
@@ -104,9 +104,9 @@ where
     is_served
 }
 
-/// Whether a server has ended well, of which is known whether all were served that were to be: after this many
-/// sessions, or at a sign. Of what a thread returns the prover knows the type only, so who waited for one asks here
-/// again whether there is a sign or a total.
+/// Returns whether a server has ended well, given whether all sessions were served that should be: after this many
+/// sessions, or by the stop flag. The prover knows only the type of a thread's result, so a caller that joined a thread
+/// checks here again whether there is a flag or a total.
 pub(crate) fn is_well_ended(is_served: bool, stop: Option<&StopSign>, total: u32) -> bool
     ensures { IsTrue result → IfNone stop.entry (0 < total) }
 {
@@ -116,8 +116,8 @@ pub(crate) fn is_well_ended(is_served: bool, stop: Option<&StopSign>, total: u32
     }
 }
 
-/// Serves the connections of the listeners, closes them once no further session may begin, and waits until all sessions
-/// have ended. Returns false where a listener failed for good, or the journal did.
+/// Serves the connections of the listeners, closes the listeners once no further session may begin, and waits until all
+/// sessions have ended. Returns false if a listener failed for good, or the journal did.
 pub(crate) fn serve_sessions<J: HallName + Send + Sync, R: Threads + Wait + Log + Clock + Sync>(
     rt: &R,
     alloc: Global,
@@ -137,7 +137,8 @@ pub(crate) fn serve_sessions<J: HallName + Send + Sync, R: Threads + Wait + Log 
     is_well_ended(is_served, stop, limits.total)
 }
 
-// Serves in the hall, which J names, and settles; the history, and whether all were served that were to be.
+// Serves in the hall, which J names, and settles it. Returns the history, and whether all sessions were served that
+// should be.
 fn serve_all<J: HallName + Send + Sync, R: Threads + Wait + Log + Clock + Sync>(
     rt: &R,
     alloc: Global,
@@ -166,7 +167,7 @@ fn serve_all<J: HallName + Send + Sync, R: Threads + Wait + Log + Clock + Sync>(
     Ok((history, is_served))
 }
 
-// Serves in a hall that has no name yet, as `serve_all`: this call picks the name.
+// Serves in a hall that has no name yet, like `serve_all`: this call picks the name.
 fn serve<R: Threads + Wait + Log + Clock + Sync>(
     rt: &R,
     alloc: Global,
@@ -184,7 +185,7 @@ fn serve<R: Threads + Wait + Log + Clock + Sync>(
     serve_all::<Brand, R>(rt, alloc, hall, doors, limits, stop)
 }
 
-/// The hall that goes on from what was loaded.
+/// Returns the hall that continues the loaded entries.
 pub(crate) fn resume_hall(
     alloc: Global,
     capacity: u32,
@@ -213,21 +214,25 @@ pub(crate) fn ports_of(doors: &Doors) -> Result<Ports, ServerFault>
     }
 }
 
-/// Serves those who come in by the doors, each by a session of its own at a desk of one hall, which goes on from the
-/// entries that were loaded. First it writes `listening on` and the port, and with a door on the web a line `web on`
-/// and its port. A connection for which there is no place is told `(server full)`, or `(too many sessions)` where its
-/// address has as many as it may have, and closed, the web socket of a browser with 1013; it counts for no session, nor
-/// does one for which memory or threads ran out before its session begins, nor a browser that only has the page, nor
-/// one that sends a request of HTTP by Telnet. Where `limits.total` is over 0, the listeners are closed once that many
-/// sessions have begun, or became a player's where only those count, and the server ends once all sessions have ended.
-/// Once the sign is set, it ends, too: the listeners are closed, each session is told `(server stops)`, and its socket
-/// is shut, five seconds later at the latest. At its end the server settles the hall, tries the history as a load
-/// would, and writes it in format 2 (docs/HISTORY.md).
+/// Serves connections, each with a session of its own at a desk of one hall, which continues the loaded entries.
 ///
-/// `Load` comes before anything is written. `Accept` comes before that, too, where a listener has no port, and else
-/// where one can never give a connection again: the sessions that run end in their own way, and the history is written
-/// before it is answered. Any other fault of an `accept` is logged once, and passed over. `Settle` comes where the
-/// desks made no history that can be loaded again.
+/// First it writes `listening on` and the port, and with a web listener `web on` and its port. A connection without a
+/// place gets `(server full)`, or `(too many sessions)` if its address has reached its limit, and is closed; the web
+/// socket of a browser is closed with 1013.
+///
+/// If `limits.total` is above 0, the listeners are closed once that many sessions have begun, or became a player's if
+/// only those count. The server ends once all sessions have ended. A connection without a place does not count, and
+/// neither does one whose session does not begin for lack of memory or threads. An HTTP request at the Telnet port does
+/// not count, nor a browser that only gets the page.
+///
+/// The stop flag ends the server too: the listeners are closed, each session gets `(server stops)`, and its socket is
+/// shut within five seconds. At its end the server settles the hall, checks the history like a load, and writes it in
+/// format 2 (docs/HISTORY.md).
+///
+/// `Load` comes before anything is written. So does `Accept` if a listener has no port. Otherwise `Accept` means that a
+/// listener can never give a connection again; then the running sessions end in their own way, and the history is
+/// written before the error is returned. Any other fault of an `accept` is logged once, and skipped. `Settle` means
+/// that the desks made no history that can be loaded again.
 pub fn listen_on<R: Threads + Wait + Log + Clock + Sync + AllocGlobal, W: Write>(
     rt: &R,
     doors: Doors,

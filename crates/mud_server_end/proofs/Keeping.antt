@@ -1,4 +1,4 @@
--- What the journal of a server keeps.
+-- The contents of a server's journal.
 use Rattle.std.proofs.Common.{◌≡◌, ℕ, ◌+◌, Bool, true, false, List, [], ◌∷◌, ◌++◌, length, Option, Some, None}
 use Rattle.std.proofs.Common.{Result, Ok, Err, OnOk, OnErr, IfOk, append_assoc}
 use Rattle.std.proofs.Common.{refl, sym, ◌∙◌, ap, take, drop, arith, subst, inl, inr, ◌⊎◌}
@@ -15,7 +15,7 @@ use Rattle.mud_journal.specs.Disk.{Kept, Holds, HoldsFront, Adds, AddsInPart}
 use Rattle.mud_journal.proofs.Disks.{unchanged}
 use Rattle.mud_server_end.specs.JournalText.{IsWritten}
 
--- all is synced
+-- all entries are synced
 front_of_all : (kept : Option Kept) (es : List Entry) → Holds kept es → HoldsFront kept es es
 front_of_all None es h = tt
 front_of_all (Some k) es h =
@@ -44,7 +44,7 @@ part_written old new es all added count now failed h n part is fault = record {
   counted = λ e. absurd (cc);
 }
 
--- what a commit leaves, whether it took the entries or not
+-- the contents after a commit, whether or not it succeeded
 pub committed : {R F : Type 0} (U : R → Type 0) (r : Result R F) (old new : Option Kept) (es all added : List Entry)
     (count now : ℕ) (failed : Bool) → Holds old es → count ≡ length es → all ≡ es ++ added
     → OnOk r (Adds old new count added) → IfOk r (λ x. (now ≡ count + length added) × U x) → OnOk r (failed ≡ false)
@@ -55,7 +55,7 @@ committed U (Ok x) old new es all added count now failed h n is adds more going 
 committed U (Err x) old new es all added count now failed h n is adds more going part fault =
     part_written old new es all added count now failed h n part is fault
 
--- what a receipt says of what was written
+-- the claim of a receipt about the entries written
 pub receipted : {R F : Type 0} (up_to : R → ℕ) (r : Result R F) (kept : Option Kept) (es : List Entry)
     (count before : ℕ) (failed : Bool) → IsWritten es kept failed count → OnOk r (failed ≡ false)
     → IfOk r (λ x. (count ≡ before) × (up_to x ≡ count)) → IfOk r (λ x. (up_to x ≡ length es) × Holds kept es)
@@ -71,7 +71,7 @@ unwritten kept es all now failed h (more, is) fault =
 pub prefix_trans : {A : Type 0} (xs ys zs : List A) → IsPrefix xs ys → IsPrefix ys zs → IsPrefix xs zs
 prefix_trans xs ys zs (a, is) (b, same) = (a ++ b, sym (append_assoc xs a b) ∙ ap (λ l. l ++ b) is ∙ same)
 
--- a beginning as long as the whole
+-- a prefix of equal length
 pub same_length : {A : Type 0} (xs ys : List A) → IsPrefix xs ys → length xs ≡ length ys → xs ≡ ys
 same_length {A = A} xs ys (zs, is) long = go zs is
   where
@@ -79,7 +79,7 @@ same_length {A = A} xs ys (zs, is) long = go zs is
     go [] is = sym (append-nil xs) ∙ is
     go (z ∷ zs) is = absurd (omega (arith, long, ap length is, length-append xs (z ∷ zs)))
 
--- what the desks make is a beginning of what gathers all that they know
+-- the history of the desks is a prefix of the longest one that they know
 gathered_in : (loaded list history : List Entry) (desks : List View) → IsPrefix loaded list
     → IsGathered list desks list → IsGathered loaded desks history → IsPrefix history list
 gathered_in loaded list history desks begun whole made = go made.some
@@ -96,7 +96,7 @@ pub all_there : (loaded list history : List Entry) (desks : List View) (kept : O
 all_there loaded list history desks kept begun whole made long h =
     subst (Holds kept) (sym (same_length history list (gathered_in loaded list history desks begun whole made) long)) h
 
--- the entries that were found, and copies of the others, are all that was loaded
+-- the entries that were found, and copies of the others, are all loaded entries
 pub all_loaded : (kept : Option Kept) (n : ℕ) (loaded added begun : List Entry)
     → Holds kept (take n loaded ++ added) → added ≡ drop n loaded → begun ≡ loaded → Holds kept begun
 all_loaded kept n loaded added begun h rest is =

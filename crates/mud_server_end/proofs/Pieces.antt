@@ -10,13 +10,13 @@ use Rattle.mud_chron.specs.inner.Texts.{written_text}
 use Rattle.mud_chron.specs.Text.{entries_text, end_line, line_feed}
 use Rattle.mud_row.specs.Known.{lines_after}
 
--- of a text some was written, and after it come a piece and the rest
+-- a part of the text is written; a piece and the rest follow
 pub record IsOnWay (held now_held : Option (List ℕ)) (text piece rest : List ℕ) : Type 0 where
   pub done : List ℕ
   pub written : Appends held now_held done
   pub whole : done ++ (piece ++ rest) ≡ text
 
--- what comes after the lines of the first n entries
+-- the text after the lines of the first n entries
 abbrev pub left : ℕ → List Entry → List ℕ
 left n h = lines_after n h ++ (end_line (length h) ++ line_feed)
 
@@ -25,7 +25,7 @@ pub begun : (held : Option (List ℕ)) (h : List Entry) (piece : List ℕ) → p
 begun held h piece is =
     record { done = []; written = Appends-nil held; whole = ap (λ (p : List ℕ). p ++ left 0 h) is }
 
--- a line was added to the piece
+-- a line is appended to the piece
 pub line_added : (held now_held : Option (List ℕ)) (h : List Entry) (n : ℕ) (piece more : List ℕ)
     → IsOnWay held now_held (written_text h) piece (left n h)
     → more ++ lines_after (n + 1) h ≡ piece ++ lines_after n h
@@ -41,7 +41,7 @@ line_added held now_held h n piece more way is =
       whole = ap (λ (t : List ℕ). way.done ++ t) whole ∙ way.whole;
     }
 
--- the same of a history that is that one
+-- likewise for an equal history
 pub line_at : (held now_held : Option (List ℕ)) (same h : List Entry) (n : ℕ) (piece more : List ℕ) → same ≡ h
     → IsOnWay held now_held (written_text h) piece (left n h)
     → more ++ lines_after (n + 1) same ≡ piece ++ lines_after n same
@@ -60,7 +60,7 @@ piece_written held mid now_held text piece empty rest way one none = record {
   whole = ap (λ (t : List ℕ). (way.done ++ piece) ++ (t ++ rest)) none ∙ append_assoc way.done piece rest ∙ way.whole;
 }
 
--- all lines are there, and the last one was added to the piece
+-- all lines are done, and the last one is appended to the piece
 pub end_added : (held now_held : Option (List ℕ)) (h : List Entry) (n count : ℕ) (piece more : List ℕ)
     → IsOnWay held now_held (written_text h) piece (left n h) → length h ≤ n → count ≡ length h
     → more ≡ piece ++ end_line count ++ line_feed → IsOnWay held now_held (written_text h) more []
@@ -85,7 +85,7 @@ stopped held now_held text piece rest way =
     sym (take_at way.done (piece ++ rest) (length way.done) refl) ∙ ap (take (length way.done)) way.whole in
     (length way.done, subst (Appends held now_held) front way.written)
 
--- a beginning of the piece is written, and nothing more
+-- a prefix of the piece is written, and nothing more
 pub cut : (held mid now_held : Option (List ℕ)) (text piece rest : List ℕ) (m : ℕ) → IsOnWay held mid text piece rest
     → Appends mid now_held (take m piece) → (n : ℕ) × Appends held now_held (take n text)
 cut held mid now_held text piece rest m way one =

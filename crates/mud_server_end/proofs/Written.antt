@@ -1,4 +1,4 @@
--- What was written, put together, and the history that it tells.
+-- The output in full, and the history in it.
 use Rattle.std.proofs.Common.{◌≡◌, ◌≤◌, ◌<◌, ℕ, List, Option, Result, Ok, Err, OnErr, sym, subst, ◌∙◌}
 use Rattle.std.proofs.Common.{ap, map, length, take, Bool, true, false, Some, None, refl, ◌⊎◌, inl, inr, arith}
 use Rattle.std.proofs.Common.{◌++◌, codes, append_assoc}
@@ -48,7 +48,7 @@ pub end_of : (limits : Limits) (loaded begun history : List Entry) → begun ≡
     → MayEnd limits begun history → MayEnd limits loaded history
 end_of limits loaded begun history is ends = subst (λ l. MayEnd limits l history) is ends
 
--- the lines of two ports, as they are written
+-- the lines of two ports
 pub two_lines : (telnet web : ℕ)
     → codes "listening on " ++ (decimal telnet ++ (codes "\nweb on " ++ (decimal web ++ codes "\n")))
     ≡ opening_lines telnet (Some web)
@@ -107,7 +107,7 @@ all_written limits has_web opening loaded history held mid now_held ends one two
   written = Appends-trans held mid now_held (lines_of has_web opening) (written_text history) one two;
 }
 
--- all was written, and a disk holds its entries
+-- everything was written, and a disk has its entries
 pub all_journaled : (limits : Limits) (has_web : Bool) (opening : Opening has_web) (loaded history : List Entry)
     (held mid now_held : Option (List ℕ)) (kept : Option Kept) → MayEnd limits loaded history
     → Appends held mid (lines_of has_web opening) → Appends mid now_held (written_text history) → Holds kept history
@@ -130,7 +130,7 @@ write_fault capacity loaded old new fault (inl is) = subst (IsServerFault capaci
 write_fault capacity loaded old new fault (inr (is, failed)) =
     subst (IsServerFault capacity loaded old new) (sym is) failed
 
--- all was written, which is a part
+-- the whole was written, which is a part
 pub whole_written : (limits : Limits) (has_web : Bool) (opening : Opening has_web) (loaded history : List Entry)
     (held mid now_held : Option (List ℕ)) → MayEnd limits loaded history → Appends held mid (lines_of has_web opening)
     → Appends mid now_held (written_text history) → SettlesInPart limits has_web loaded held now_held

@@ -1,15 +1,16 @@
--- What the journal of a server keeps.
+-- The contents of a server's journal.
 use Rattle.std.specs.Prelude.{◌≡◌, ℕ, Bool, false, List, ◌++◌, length, Option}
 use Rattle.mud_chron.specs.Entry.{Entry}
 use Rattle.mud_journal.specs.Disk.{Kept, Holds, HoldsFront}
 
--- the entries that a journal was given, what its disk keeps, and whether it has failed
+-- the entries given to a journal, the contents of its disk, and whether it has failed
 pub record Written : Type 0 where
   pub entries : List Entry
   pub kept : Option Kept
   pub has_failed : Bool
 
--- a front of the entries is synced, and a front of their text is appended; unless the journal has failed, all is synced
+-- a prefix of the entries is synced, and a prefix of their text is appended; unless the journal has failed, all of it
+-- is synced
 pub record IsWritten (entries : List Entry) (kept : Option Kept) (has_failed : Bool) (count : ℕ) : Type 0 where
   pub synced : List Entry
   pub rest : List Entry

@@ -1,4 +1,4 @@
-//! The history that a server ends with.
+//! The final history of a server.
 
 ghost use Rattle.std.specs.Prelude.{◌≡◌, ◌≤◌, ◌+◌, length, IfOk, IfErr, OnOk};
 ghost use Rattle.mud_world.specs.declared.limits.TheConstants.{MOST_ENTRIES};
@@ -18,8 +18,8 @@ use mud_server_state::Limits;
 use std::alloc::Global;
 use std::sync::Wait;
 
-/// Settles the hall of these desks: its history, which can be loaded again. The hall and its desks are gone before
-/// memory is asked for.
+/// Settles the hall of these desks. Returns its history, which can be loaded again. The hall and its desks are dropped
+/// before memory is allocated.
 pub fn settle<J: HallName, R: Wait>(
     rt: &R,
     alloc: Global,
@@ -43,7 +43,7 @@ pub fn settle<J: HallName, R: Wait>(
     }
 }
 
-/// Writes what is left to the journal, and settles the hall: the journal has its whole history.
+/// Writes the remaining entries to the journal, and settles the hall. The journal then has its whole history.
 pub fn settle_journaled<J: HallName, D: Disk + Drop, R: Wait>(
     rt: &R,
     alloc: Global,
@@ -69,7 +69,7 @@ pub fn settle_journaled<J: HallName, D: Disk + Drop, R: Wait>(
     Ok((history, writer.into_journal()))
 }
 
-// Why the desks made no history.
+// Returns the reason why the desks made no history.
 fn of_close(fault: CloseFault) -> ServerFault
     ensures { IsInnerFault result }
 {
@@ -79,8 +79,8 @@ fn of_close(fault: CloseFault) -> ServerFault
     }
 }
 
-// Tries whether a hall of this capacity can begin with the history, as a load does; the history stays as it was. A
-// settlement does not say of its entries that each is legal where it stands.
+// Checks that a hall of this capacity can begin with the history, like a load; the history is unchanged. A settlement
+// does not promise that each entry is legal where it occurs.
 fn try_history(alloc: Global, capacity: u32, history: &mut History) -> Result<(), ServerFault>
     requires { capacity ≤ MOST_ENTRIES }
     ensures same { history.new ≡ history.old }
@@ -97,7 +97,7 @@ fn try_history(alloc: Global, capacity: u32, history: &mut History) -> Result<()
     }
 }
 
-// The entry of this version is not one that a history can have there.
+// Returns the fault that the entry with this version can't occur there.
 fn at_odds(version: usize) -> ServerFault
     requires { version ≤ MOST_ENTRIES + 1 }
     ensures { IsInnerFault result }

@@ -1,32 +1,32 @@
-//! Why a server ended.
+//! The faults of a server.
 
 use mud_hall::{CloseFault, LoadFault};
 use mud_journal::{JournalFault, OpenFault};
 use std::alloc::AllocError;
 use thiserror::Error;
 
-/// Why a server ended.
+/// The reason why a server ended.
 #[derive(PartialEq, Eq, Debug, Drop, Error)]
 pub enum ServerFault {
-    /// Memory ran out for what the server itself keeps or writes.
+    /// An allocation failed for the state or the output of the server itself.
     #[error("out of memory")]
     OutOfMemory,
-    /// What it had to write was not taken.
+    /// A write failed.
     #[error("write fault")]
     Write,
-    /// No connection can be taken.
+    /// No connection can be accepted.
     #[error("cannot listen")]
     Accept,
     /// The desks made no history, or none that can be loaded again.
     #[error("cannot settle")]
     Settle(CloseFault),
-    /// The hall does not go on from what was loaded.
+    /// The hall can't continue the loaded entries.
     #[error("cannot load: {0}")]
     Load(LoadFault),
-    /// The journal can't be written anew: it is what it was, or has all that was loaded.
+    /// The journal can't be rewritten: it has its old contents, or all loaded entries.
     #[error("cannot open journal: {0}")]
     Open(OpenFault),
-    /// The journal takes no more, or is not what the desks made.
+    /// The journal has failed, or differs from the history of the desks.
     #[error("journal fault: {0}")]
     Journal(JournalFault),
 }

@@ -1,8 +1,8 @@
-//! What a server writes: its ports, its journal, and at its end the history of its hall.
+//! The output of a server: its ports, its journal, and at its end the history of its hall.
 //!
-//! A [`JournalWriter`] appends what is new in the hall to the journal and syncs it. At the end the hall is settled
-//! ([`settle`], [`settle_journaled`]): its desks and what they saw make the history, which is tried as a load would and
-//! then written. [`ServerFault`] says why a server ended.
+//! A [`JournalWriter`] appends the new entries of the hall to the journal and syncs them. At the end the hall is
+//! settled ([`settle`], [`settle_journaled`]): its desks make the history, which is checked like a load and then
+//! written. [`ServerFault`] is the reason why a server ended.
 //!
 //! Threads: one thread owns the journal writer and its file, and blocks on the disk. The rest runs after all other
 //! threads have ended, and owns the hall and its desks.

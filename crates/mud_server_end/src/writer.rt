@@ -1,4 +1,4 @@
-//! The writer of a hall's journal.
+//! Writes a hall's journal.
 
 ghost use Rattle.std.specs.Prelude.{◌≡◌, false, length, IfOk, OnOk};
 ghost use mathlib.Core.List.{IsPrefix};
@@ -11,7 +11,8 @@ use mud_world::limits::MOST_ENTRIES;
 use std::alloc::Global;
 use std::marker::Model;
 
-/// A journal, and the entries of a hall that were read for it. A prefix of them is synced: all, unless it has failed.
+/// A journal, and the entries of a hall that were read for it. A prefix of them is synced: all of them, unless the
+/// journal has failed.
 #[derive(Drop)]
 pub struct JournalWriter<J: HallName, D: Disk + Drop> {
     journal: Journal<D>,
@@ -38,7 +39,7 @@ impl<J: HallName, D: Disk + Drop> Model for JournalWriter<J, D> {
 }
 
 impl<J: HallName, D: Disk + Drop> JournalWriter<J, D> {
-    /// Goes on from what was read, which is in the journal.
+    /// Continues after the entries read, which the journal has.
     pub fn new(alloc: Global, journal: Journal<D>, reader: Reader<J>) -> JournalWriter<J, D>
         requires holds { Holds (D.kept journal.disk) reader }
         requires count { journal.count ≡ length reader }
@@ -52,19 +53,19 @@ impl<J: HallName, D: Disk + Drop> JournalWriter<J, D> {
         }
     }
 
-    /// How many entries were read.
+    /// Returns the number of entries read.
     pub fn len(&self) -> usize
         ensures { result ≡ length self.now.entries }
     {
         self.reader.len() as usize
     }
 
-    /// A receipt for all that is synced.
+    /// Returns a receipt for all synced entries.
     pub fn receipt(&self) -> Receipt {
         self.journal.receipt()
     }
 
-    /// Appends what is new in the hall, and syncs it.
+    /// Appends the new entries of the hall, and syncs them.
     pub fn write(&mut self, hall: &Hall<J>) -> Result<Receipt, JournalFault>
         ensures ok { IfOk result (λ r. (r.up_to ≡ length self.new.entries) × Holds self.new.kept self.new.entries) }
         ensures longer { IsPrefix self.old.entries self.new.entries }
@@ -81,7 +82,7 @@ impl<J: HallName, D: Disk + Drop> JournalWriter<J, D> {
         }
     }
 
-    /// Appends and syncs what is new in the hall; the journal then has all that any of the desks has seen.
+    /// Appends and syncs the new entries of the hall. The journal then has all entries that any desk has seen.
     pub fn finish(&mut self, hall: &Hall<J>, desks: &mut Vec<Desk<J>>) -> Result<(), JournalFault>
         ensures same { desks.new.items ≡ desks.old.items }
         ensures holds { OnOk result (Holds self.new.kept self.new.entries) }
@@ -98,7 +99,7 @@ impl<J: HallName, D: Disk + Drop> JournalWriter<J, D> {
         Ok(())
     }
 
-    /// The journal.
+    /// Returns the journal.
     pub fn into_journal(self) -> Journal<D>
         ensures { D.kept result.disk ≡ self.kept }
     {

@@ -1,4 +1,4 @@
-//! What a server writes.
+//! Writes the output of a server.
 
 ghost use Rattle.std.specs.Prelude.{◌≡◌, ◌⊎◌, ℕ, take, true, IfOk, IfErr, OnOk, OnErr};
 ghost use Rattle.std.specs.Prelude.{string_bytes};
@@ -15,10 +15,10 @@ use mud_row::{History, write_end};
 use std::alloc::{AllocError, Global};
 use std::io::Write;
 
-// From how many bytes on a piece of a history's text is written.
+// The least length of a written piece of a history's text.
 const PIECE_LEN: usize = 65_536;
 
-/// Writes the lines that name the ports; where it fails, a beginning of them.
+/// Writes the lines that name the ports. If a write fails, a prefix of them is written.
 pub fn write_ports<W: Write>(
     alloc: Global,
     out: &mut Sink<W>,
@@ -34,8 +34,8 @@ pub fn write_ports<W: Write>(
     write(out, lines.as_bytes())
 }
 
-/// Writes the text of a history, which stays as it was; where it fails, a beginning of it. It is made piece by piece,
-/// so it takes memory for one piece.
+/// Writes the text of a history, which is unchanged. If a write fails, a prefix of it is written. The text is made
+/// piece by piece, so it needs memory for one piece only.
 pub fn write_entries<W: Write>(
     alloc: Global,
     out: &mut Sink<W>,
@@ -59,7 +59,7 @@ pub fn write_entries<W: Write>(
     write(out, text.as_bytes())
 }
 
-// The lines that name the ports.
+// Returns the lines that name the ports.
 fn ports_lines(alloc: Global, ports: Ports) -> Result<String, AllocError>
     ensures { IfOk result (λ lines. string_bytes lines ≡ opening_lines ports.telnet ports.web) }
 {
@@ -70,7 +70,7 @@ fn ports_lines(alloc: Global, ports: Ports) -> Result<String, AllocError>
     }
 }
 
-// Writes all of a text; where it fails, a beginning of it.
+// Writes a whole text. If a write fails, a prefix of it is written.
 fn write<W: Write>(out: &mut Sink<W>, text: &[u8]) -> Result<(), ServerFault>
     ensures ok { OnOk result (Appends out.old.holds out.new.holds text.now) }
     ensures front { OnErr result ((n : ℕ) × Appends out.old.holds out.new.holds (take n text.now)) }

@@ -1,4 +1,4 @@
--- Which types of the shared state may cross threads.
+-- The types of the shared state that may cross threads.
 use denote.RattleType.{RattleType}
 use denote.Param.Send.{IsSend, IsSync, sendable}
 use Rattle.std.proofs.Crossing.{crosses}

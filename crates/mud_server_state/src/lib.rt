@@ -1,12 +1,13 @@
-//! What the threads of a server share.
+//! The state that the threads of a server share.
 //!
-//! A [`ServerState`] has the hall, the places for its sessions with their desks, the wakers of their notice threads,
-//! the lobby of browsers that have no session yet, the limits, and the gate that says how far the journal is synced.
+//! A [`ServerState`] has the hall, the places for its sessions with their desks, and the wakers of their notice
+//! threads. It also has the lobby of browsers without a session, the limits, and the gate that says how far the journal
+//! is synced.
 //!
 //! Threads: each thread of a server has a reference. Each place, each waker and the lobby have a lock of their own,
-//! held for a moment, under which nothing else is locked; whoever chooses a desk holds one more, which comes before
-//! those of places. Counters are atomic. A desk belongs to its place while nobody sits at it, and to the client that
-//! took it else. Nothing here blocks on a player, a listener or a disk.
+//! which is held for a moment, and under which no other lock is taken. Choosing a desk takes one more lock, which comes
+//! before those of places. Counters are atomic. A free desk belongs to its place, and any other to the client that took
+//! it. Nothing here blocks on a player, a listener or a disk.
 #![tactic(auto)]
 
 mod limits;

@@ -1,22 +1,22 @@
-//! What a server keeps to.
+//! The limits of a server.
 
-/// What a server keeps to.
+/// The limits of a server.
 #[derive(Clone, Copy, Debug, PartialEq, Eq)]
 pub struct Limits {
-    /// How many sessions there are at once at most, 0 to 64.
+    /// The greatest number of simultaneous sessions, 0 to 64.
     pub sessions: u32,
-    /// How many of them may be of one address; 0: all.
+    /// The greatest number of simultaneous sessions of one address; 0 means no limit.
     pub per_address: u32,
-    /// After how many sessions the server ends; 0: it does not.
+    /// The number of sessions after which the server ends; 0 means that it never ends by itself.
     pub total: u32,
-    /// Whether only sessions count for the total that became a player's.
+    /// True if only sessions that became a player's count for the total.
     pub counts_players: bool,
-    /// How many workers search for what the guide is asked, 0 to 8; the answers are the same.
+    /// The number of workers of the guide, 0 to 8; the answers do not depend on it.
     pub workers: u32,
-    /// How many changes the history holds at most, 1 to 65,536.
+    /// The capacity of the history, 1 to 65,536.
     pub capacity: u32,
-    /// After how many seconds without a line from the other side a session ends; 0: it does not.
+    /// The number of seconds without input after which a session ends; 0 means no limit.
     pub idle: u32,
-    /// After how many seconds a session ends that is nobody's player; 0: it does not.
+    /// The number of seconds after which a session without a player ends; 0 means no limit.
     pub unnamed: u32,
 }

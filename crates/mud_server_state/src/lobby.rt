@@ -1,4 +1,4 @@
-//! Browsers that have no session yet, and how many sessions may begin.
+//! The lobby: browsers that have no session yet, and the tickets for sessions.
 
 use crate::limits::Limits;
 use mud_listeners::Site;
@@ -9,16 +9,18 @@ use std::sync::atomic::{AtomicBool, AtomicU32, AtomicU64, Ordering};
 use std::sync::{Arc, Mutex, Wait};
 use std::time::Duration;
 
-// How many browsers have a chair at once.
+// The number of chairs: browsers whose head is being read.
 const CHAIRS: u32 = 32;
 
-// How many browsers are heard at once, those that gave their chair to another and have not left yet among them.
+// The greatest number of browsers whose head is being read, including those that gave up their chair and have not left
+// yet.
 const MOST_HEARD: u32 = 64;
 
-// As many connections as a browser opens to one server at once: an address has no fewer chairs, whatever its limit.
+// The number of connections that a browser opens to one server. An address has at least this many chairs, whatever its
+// limit.
 const CONNECTIONS: u32 = 6;
 
-/// A browser that is heard: its socket, its address, and how many came before it.
+/// A browser whose head is being read: its socket, its address, and the number of browsers before it.
 #[derive(Drop)]
 struct Head {
     socket: Arc<Socket>,
@@ -26,22 +28,23 @@ struct Head {
     number: u64,
 }
 
-/// The browsers that are heard, each in a chair of its own, and how many sessions have begun or are about to.
+/// The browsers whose head is being read, each in a chair of its own, and the number of sessions that have begun or are
+/// about to.
 #[derive(Drop)]
 pub struct Lobby {
     site: Option<Site>,
-    // Under it nothing else is locked.
+    // No other lock is taken under it.
     chairs: Mutex<Vec<Option<Head>>>,
     came: AtomicU64,
     heard: AtomicU32,
     started: AtomicU32,
     begun: AtomicU32,
     is_closed: AtomicBool,
-    // The second in which the log last named a request by Telnet; 0: none.
+    // The second in which the log last named a request at the Telnet port; 0 means never.
     logged: AtomicU64,
 }
 
-// This many free chairs.
+// Returns this many free chairs.
 fn free_chairs(alloc: Global, count: u32) -> Result<Vec<Option<Head>>, AllocError> {
     let mut chairs = Vec::new(alloc);
     for _ in 0..count {
@@ -50,7 +53,7 @@ fn free_chairs(alloc: Global, count: u32) -> Result<Vec<Option<Head>>, AllocErro
     Ok(chairs)
 }
 
-// How many browsers came before the one at a chair, if there is one.
+// Returns the number of the browser at a chair, if there is one.
 fn number_of(seat: &Option<Head>) -> Option<u64> {
     match seat {
         Some(head) => Some(head.number),
@@ -58,7 +61,7 @@ fn number_of(seat: &Option<Head>) -> Option<u64> {
     }
 }
 
-// How many of the chairs are of this address.
+// Returns the number of chairs of this address.
 fn count_of(chairs: &[Option<Head>], address: IpAddr) -> u32 {
     let mut count = 0u32;
     for chair in chairs {
@@ -71,12 +74,12 @@ fn count_of(chairs: &[Option<Head>], address: IpAddr) -> u32 {
     count
 }
 
-// The free chair of the lowest number.
+// Returns the free chair with the lowest number.
 fn free_chair(chairs: &[Option<Head>]) -> Option<usize> {
     chairs.iter().position(|chair| chair.is_none())
 }
 
-// The chair of this address whose browser has waited longest.
+// Returns the chair of this address whose browser has waited longest.
 fn longest_of(chairs: &[Option<Head>], address: IpAddr) -> Option<usize> {
     let mut longest = None;
     let mut least = u64::MAX;
@@ -92,7 +95,7 @@ fn longest_of(chairs: &[Option<Head>], address: IpAddr) -> Option<usize> {
     longest
 }
 
-// The address that has the most chairs; of several such that of the browser which has waited longest.
+// Returns the address with the most chairs; among equals, that of the browser that has waited longest.
 fn most_seated(chairs: &[Option<Head>]) -> Option<IpAddr> {
     let mut seated = None;
     let mut most = 0u32;
@@ -110,8 +113,9 @@ fn most_seated(chairs: &[Option<Head>]) -> Option<IpAddr> {
     seated
 }
 
-// The chair for one more browser of an address that has this many at most: a free one, or that of the browser which
-// has waited longest of the same address where that has as many, and else of the address that has the most.
+// Returns the chair for one more browser of an address that may have `most` chairs. It is a free one if the address has
+// fewer. Otherwise it is that of the browser that has waited longest: of this address if it has as many, or else of the
+// address with the most.
 fn chair_for(chairs: &[Option<Head>], address: IpAddr, most: u32) -> Option<usize> {
     if most <= count_of(chairs, address) {
         return longest_of(chairs, address);
@@ -122,7 +126,7 @@ fn chair_for(chairs: &[Option<Head>], address: IpAddr, most: u32) -> Option<usiz
     }
 }
 
-// How many chairs one address may have.
+// Returns the number of chairs that one address may have.
 fn most_chairs(limits: &Limits) -> u32 {
     match limits.per_address {
         0 => CHAIRS,
@@ -131,7 +135,7 @@ fn most_chairs(limits: &Limits) -> u32 {
 }
 
 impl Lobby {
-    /// An empty lobby, with chairs only where there is a door on the web.
+    /// Returns an empty lobby, which has chairs only if there is a web listener.
     pub fn new(alloc: Global, site: Option<Site>) -> Result<Lobby, AllocError> {
         let count = if site.is_some() { CHAIRS } else { 0 };
         Ok(Lobby {
@@ -146,7 +150,7 @@ impl Lobby {
         })
     }
 
-    /// The origin whose pages may play; none where there is no door on the web.
+    /// Returns the origin whose pages may play; empty without a web listener.
     pub fn origin(&self) -> &[u8] {
         match &self.site {
             Some(site) => site.origin.as_bytes(),
@@ -154,7 +158,7 @@ impl Lobby {
         }
     }
 
-    /// What is answered to a browser that asks for the page.
+    /// Returns the answer to a browser that asks for the page.
     pub fn page(&self) -> &'static [u8] {
         match &self.site {
             Some(site) => site.page,
@@ -162,10 +166,10 @@ impl Lobby {
         }
     }
 
-    /// Takes a chair for a browser of this address that is to be heard, if the lobby is open. Where none is free, or
-    /// the address has as many as it may have, a browser that has waited longer gives way, and its socket is shut. None
-    /// where 64 are still heard, those that gave way among them. Returns how many browsers came before, as the chair's
-    /// name.
+    /// Takes a chair for a browser of this address, if the lobby is open. If no chair is free, or the address has as
+    /// many as it may have, the browser that has waited longest gives way, and its socket is shut. Returns `None` if 64
+    /// browsers are still being read, including those that gave way. Returns the number of browsers before it as the
+    /// chair's name.
     pub fn take_chair<R: Wait>(
         &self,
         rt: &R,
@@ -187,7 +191,7 @@ impl Lobby {
         chair
     }
 
-    // Gives a browser the chair that is for it, and sends away who had it.
+    // Gives a browser its chair, and shuts the socket of the browser that had it.
     fn seat<R: Wait>(
         &self,
         rt: &R,
@@ -211,7 +215,7 @@ impl Lobby {
         Some(number)
     }
 
-    /// Releases the chair of this name, unless another browser has it now.
+    /// Releases the chair with this name, unless another browser has it now.
     pub fn release_chair<R: Wait>(&self, rt: &R, number: u64) {
         let mut chairs = self.chairs.lock(rt);
         for chair in chairs.iter_mut() {
@@ -222,12 +226,12 @@ impl Lobby {
         self.heard.fetch_sub(1, Ordering::SeqCst);
     }
 
-    /// Whether no browser is heard.
+    /// Returns whether no browser's head is being read.
     pub fn is_empty(&self) -> bool {
         self.heard.load(Ordering::SeqCst) == 0
     }
 
-    /// Closes the lobby: no further session may begin, and the sockets of browsers that are heard are shut.
+    /// Closes the lobby: no further session may begin, and the sockets of its browsers are shut.
     pub fn close<R: Wait>(&self, rt: &R) {
         self.is_closed.store(true, Ordering::SeqCst);
         let chairs = self.chairs.lock(rt);
@@ -238,7 +242,7 @@ impl Lobby {
         }
     }
 
-    /// Takes a ticket for one more session, if one may begin; `settle_ticket` is to follow.
+    /// Takes a ticket for one more session, if one may begin. `settle_ticket` must follow.
     pub fn take_ticket(&self, limits: &Limits) -> bool {
         if self.is_closed.load(Ordering::SeqCst) {
             return false;
@@ -253,7 +257,7 @@ impl Lobby {
         is_free
     }
 
-    /// Uses the ticket of a session that has begun, or gives it back where the session does not begin.
+    /// Uses the ticket of a session that has begun, or returns it if the session does not begin.
     pub fn settle_ticket(&self, limits: &Limits, has_begun: bool) {
         if limits.total == 0 || limits.counts_players {
             return;
@@ -265,12 +269,12 @@ impl Lobby {
         }
     }
 
-    /// How many sessions have begun, where they count for a total.
+    /// Returns the number of sessions that have begun, if these count for a total.
     pub fn begun_count(&self) -> u32 {
         self.begun.load(Ordering::SeqCst)
     }
 
-    /// Whether the log may name a request by Telnet now: it does once in each second of the clock.
+    /// Returns whether the log may name a request at the Telnet port now: at most once in each second.
     pub fn may_log_request(&self, now: Duration) -> bool {
         let second = now.as_secs().saturating_add(1);
         self.logged.swap(second, Ordering::SeqCst) != second

@@ -1,4 +1,4 @@
-//! A place for one session at a time.
+//! Places for sessions.
 
 ghost use Rattle.std.specs.Prelude.{◌≡◌};
 ghost use Rattle.mud_server_state.specs.Places.{no_place_line, no_place_close};
@@ -7,17 +7,17 @@ use mud_hall::{Desk, HallName};
 use mud_web::Ending as Close;
 use std::net::IpAddr;
 
-/// Why there is no place for a connection.
+/// The reason why there is no place for a connection.
 #[derive(Clone, Copy)]
 pub enum NoPlace {
-    /// All are taken.
+    /// All places are taken.
     Full,
-    /// Its address has as many as it may have.
+    /// The address has reached its limit.
     TooMany,
 }
 
 impl NoPlace {
-    /// What a connection by Telnet reads.
+    /// Returns the line for a Telnet connection.
     pub fn line(self) -> &'static str
         ensures { result.now ≡ no_place_line self }
     {
@@ -27,7 +27,7 @@ impl NoPlace {
         }
     }
 
-    /// How the web socket of a browser is closed.
+    /// Returns the close of a browser's web socket.
     pub fn close(self) -> Close
         ensures { result ≡ no_place_close self }
     {
@@ -38,7 +38,7 @@ impl NoPlace {
     }
 }
 
-/// A place for one session at a time: the address of the session that has it, and a desk that no session has.
+/// A place for one session at a time: the address of its session, and a desk that no session uses.
 #[derive(Drop)]
 pub struct Place<J: HallName> {
     address: Option<IpAddr>,
@@ -46,7 +46,7 @@ pub struct Place<J: HallName> {
 }
 
 impl<J: HallName> Place<J> {
-    /// A free place without a desk.
+    /// Returns a free place without a desk.
     pub fn new() -> Place<J> {
         Place {
             address: None,
@@ -54,37 +54,37 @@ impl<J: HallName> Place<J> {
         }
     }
 
-    /// A session of this address takes it.
+    /// Takes the place for a session of this address.
     pub fn take(&mut self, address: IpAddr) {
         self.address = Some(address);
     }
 
-    /// The address of the session that has it, if one has.
+    /// Returns the address of the session in this place, if there is one.
     pub fn address(&self) -> Option<IpAddr> {
         self.address
     }
 
-    /// The number of the desk that it keeps.
+    /// Returns the number of the stored desk.
     pub fn desk_number(&self) -> Option<u32> {
         self.desk.as_ref().map(|desk| desk.number())
     }
 
-    /// Takes the desk that it keeps.
+    /// Takes the stored desk.
     pub fn take_desk(&mut self) -> Option<Desk<J>> {
         self.desk.take()
     }
 
-    /// Keeps a desk, which no session has.
+    /// Stores a desk that no session uses.
     pub fn keep(&mut self, desk: Desk<J>) {
         self.desk = Some(desk);
     }
 
-    /// Releases it. A desk that it keeps stays.
+    /// Releases the place. A stored desk stays.
     pub fn release(&mut self) {
         self.address = None;
     }
 
-    /// The desk that it keeps, at the end.
+    /// Returns the stored desk, at the end of the server.
     pub fn into_desk(self) -> Option<Desk<J>> {
         self.desk
     }

@@ -1,4 +1,4 @@
-//! The hall, and the places for its sessions.
+//! The shared state: the hall, and the places for its sessions.
 
 ghost use Rattle.std.specs.Prelude.{◌≡◌, ◌≤◌, IfOk, length};
 ghost use Rattle.mud_search.specs.declared.limits.TheConstants.{MOST_WORKERS};
@@ -17,29 +17,29 @@ use std::net::IpAddr;
 use std::sync::atomic::{AtomicBool, AtomicU32, Ordering};
 use std::sync::{Arc, Mutex, Wait};
 
-/// Places for sessions. Each has a lock of its own, under which nothing else is locked.
+/// Places for sessions. Each has a lock of its own, under which no other lock is taken.
 #[derive(Drop)]
 pub struct Places<J: HallName> {
     list: Vec<Mutex<Place<J>>>,
 }
 
-/// What wakes the notice thread of a session, and the session's socket.
+/// The waker of a session's notice thread, and the session's socket.
 #[derive(Drop)]
 pub struct Waker {
     pub unparker: Unparker,
     pub socket: Arc<Socket>,
 }
 
-/// The waker of the session at each place. Each has a lock of its own, under which nothing else is locked.
+/// The waker of the session at each place. Each has a lock of its own, under which no other lock is taken.
 #[derive(Drop)]
 pub struct Wakers {
     list: Vec<Mutex<Option<Waker>>>,
 }
 
-/// What all threads of a server share.
+/// The state that all threads of a server share.
 ///
-/// There is one kind, `StateOf` of `mud_server_threads`. The hall, the places and the wakers are type parameters, since
-/// the prover finds that threads may share the state only by a lemma over its parts.
+/// There is one instance, `StateOf` of `mud_server_threads`. The hall, the places and the wakers are type parameters,
+/// because the prover finds that threads may share the state only by a lemma about its parts.
 #[derive(Drop)]
 pub struct ServerState<H, P, W> {
     pub hall: H,
@@ -50,17 +50,17 @@ pub struct ServerState<H, P, W> {
     pub gate: Gate,
     // Held while a desk is chosen; the locks of places come after it.
     choosing: Mutex<()>,
-    // How many places are taken.
+    // The number of places taken.
     taken: AtomicU32,
-    // How many sessions became a player's.
+    // The number of sessions that became a player's.
     players: AtomicU32,
     is_stopping: AtomicBool,
-    // Whether the host was warned that the history is nearly full.
+    // True once the host was warned that the history is nearly full.
     was_warned: AtomicBool,
     ghost few: { limits.workers ≤ MOST_WORKERS },
 }
 
-// This many free places.
+// Returns this many free places.
 fn free_places<J: HallName>(alloc: Global, sessions: u32) -> Result<Places<J>, AllocError>
     ensures { IfOk result (λ places. length places.list.items ≡ sessions) }
 {
@@ -71,7 +71,7 @@ fn free_places<J: HallName>(alloc: Global, sessions: u32) -> Result<Places<J>, A
     Ok(Places { list })
 }
 
-// This many places without a waker.
+// Returns this many places without a waker.
 fn no_wakers(alloc: Global, sessions: u32) -> Result<Wakers, AllocError> {
     let mut list = Vec::new(alloc);
     for _ in 0..sessions {
@@ -81,27 +81,27 @@ fn no_wakers(alloc: Global, sessions: u32) -> Result<Wakers, AllocError> {
 }
 
 impl<H, P, W> ServerState<H, P, W> {
-    /// How many places are taken.
+    /// Returns the number of places taken.
     pub fn session_count(&self) -> u32 {
         self.taken.load(Ordering::SeqCst)
     }
 
-    /// A session became a player's.
+    /// Counts a session that became a player's.
     pub fn count_player(&self) {
         self.players.fetch_add(1, Ordering::SeqCst);
     }
 
-    /// How many sessions became a player's, modulo 4,294,967,296.
+    /// Returns the number of sessions that became a player's, modulo 4,294,967,296.
     pub fn player_count(&self) -> u32 {
         self.players.load(Ordering::SeqCst)
     }
 
-    /// Marks that all sessions are to end, since the server does.
+    /// Makes all sessions end, because the server is shutting down.
     pub fn stop_sessions(&self) {
         self.is_stopping.store(true, Ordering::SeqCst);
     }
 
-    /// Why all sessions are to end, if they are.
+    /// Returns the reason why all sessions should end, if they should.
     pub fn ending<R: Wait>(&self, rt: &R) -> Option<Ending> {
         if self.gate.has_failed(rt) {
             Some(Ending::JournalFault)
@@ -112,7 +112,7 @@ impl<H, P, W> ServerState<H, P, W> {
         }
     }
 
-    /// Warns in the log, once, where the history has at least nine tenths of the changes that it can hold.
+    /// Logs a warning, once, if the history has at least nine tenths of the changes that it can hold.
     pub fn warn_if_nearly_full<R: Log>(&self, rt: &R, changes: usize) {
         let most = self.limits.capacity as usize;
         if changes < most - most / 10 || self.was_warned.swap(true, Ordering::SeqCst) {
@@ -123,7 +123,7 @@ impl<H, P, W> ServerState<H, P, W> {
 }
 
 impl<J: HallName> ServerState<Hall<J>, Places<J>, Wakers> {
-    /// The state of a server that begins: as many free places as there may be sessions at once.
+    /// Returns the state of a new server, with as many free places as there may be sessions.
     pub fn new(
         alloc: Global,
         hall: Hall<J>,
@@ -149,9 +149,9 @@ impl<J: HallName> ServerState<Hall<J>, Places<J>, Wakers> {
         })
     }
 
-    /// Takes the free place of the lowest number for a session of this address. The sessions of an address are counted
-    /// with this one: so there are never too many, but of two that come at once for the last place of their address
-    /// both may be refused.
+    /// Takes the free place with the lowest number for a session of this address. The session itself counts for its
+    /// address. So there are never too many sessions, but two connections racing for an address's last place may both
+    /// be refused.
     pub fn take_place<R: Wait>(&self, rt: &R, address: IpAddr) -> Result<usize, NoPlace> {
         let Some(at) = self.take_free(rt, address) else {
             return Err(NoPlace::Full);
@@ -164,7 +164,7 @@ impl<J: HallName> ServerState<Hall<J>, Places<J>, Wakers> {
         Ok(at)
     }
 
-    // Takes the free place of the lowest number, if there is one.
+    // Takes the free place with the lowest number, if there is one.
     fn take_free<R: Wait>(&self, rt: &R, address: IpAddr) -> Option<usize> {
         for (at, place) in self.places.list.iter().enumerate() {
             let mut place = place.lock(rt);
@@ -177,7 +177,7 @@ impl<J: HallName> ServerState<Hall<J>, Places<J>, Wakers> {
         None
     }
 
-    // How many sessions are of this address.
+    // Returns the number of sessions of this address.
     fn sessions_of<R: Wait>(&self, rt: &R, address: IpAddr) -> u32 {
         let mut count = 0u32;
         for place in &self.places.list {
@@ -188,7 +188,7 @@ impl<J: HallName> ServerState<Hall<J>, Places<J>, Wakers> {
         count
     }
 
-    /// Takes the free desk of the lowest number for the session at a place, or a new one where none is free.
+    /// Takes the free desk with the lowest number for the session at a place, or a new one if none is free.
     pub fn take_desk<R: Wait>(&self, rt: &R, at: usize) -> Result<Desk<J>, Fault> {
         let _choice = self.choosing.lock(rt);
         match self.take_lowest(rt, at) {
@@ -197,8 +197,8 @@ impl<J: HallName> ServerState<Hall<J>, Places<J>, Wakers> {
         }
     }
 
-    // Takes the free desk of the lowest number, if there is one. A desk that this place keeps goes where that was: so
-    // a place whose session has a desk keeps none.
+    // Takes the free desk with the lowest number, if there is one. A desk stored at this place moves to the place of
+    // that desk, so a place whose session has a desk stores none.
     fn take_lowest<R: Wait>(&self, rt: &R, at: usize) -> Option<Desk<J>> {
         let lowest = self.place_of_lowest(rt)?;
         let desk = self.take_kept(rt, lowest);
@@ -210,7 +210,7 @@ impl<J: HallName> ServerState<Hall<J>, Places<J>, Wakers> {
         desk
     }
 
-    // The place that keeps the free desk of the lowest number, if one is free.
+    // Returns the place that stores the free desk with the lowest number, if there is one.
     fn place_of_lowest<R: Wait>(&self, rt: &R) -> Option<usize> {
         let mut found = None;
         let mut least = u32::MAX;
@@ -225,12 +225,12 @@ impl<J: HallName> ServerState<Hall<J>, Places<J>, Wakers> {
         found
     }
 
-    // The desk that a place keeps, which keeps it no more.
+    // Takes the desk stored at a place.
     fn take_kept<R: Wait>(&self, rt: &R, at: usize) -> Option<Desk<J>> {
         self.places.list.get(at)?.lock(rt).take_desk()
     }
 
-    /// Whether no place is taken.
+    /// Returns whether no place is taken.
     pub fn is_empty<R: Wait>(&self, rt: &R) -> bool {
         for place in &self.places.list {
             if place.lock(rt).address().is_some() {
@@ -247,7 +247,7 @@ impl<J: HallName> ServerState<Hall<J>, Places<J>, Wakers> {
         }
     }
 
-    /// Announces that the hall has this many entries at least, the last of them by the session at this place. With a
+    /// Announces that the hall has at least this many entries, the last one by the session at this place. With a
     /// journal the writing thread wakes the others once those entries are synced; without one they are woken here.
     pub fn announce_change<R: Wait>(&self, rt: &R, at: usize, version: usize) {
         if self.gate.is_open() {
@@ -287,14 +287,14 @@ impl<J: HallName> ServerState<Hall<J>, Places<J>, Wakers> {
         }
     }
 
-    /// Keeps the desk of a session that has ended, for another session.
+    /// Stores the desk of a session that has ended, for another session.
     pub fn keep_desk<R: Wait>(&self, rt: &R, at: usize, desk: Desk<J>) {
         if let Some(place) = self.places.list.get(at) {
             place.lock(rt).keep(desk);
         }
     }
 
-    /// Releases a place: a desk that it keeps stays. The notice thread of its session is woken, so that it ends.
+    /// Releases a place; a stored desk stays. The notice thread of its session is woken, so that it ends.
     pub fn release_place<R: Wait>(&self, rt: &R, at: usize) {
         if let Some(waker) = self.wakers.list.get(at)
             && let Some(waker) = waker.lock(rt).take()
@@ -307,7 +307,7 @@ impl<J: HallName> ServerState<Hall<J>, Places<J>, Wakers> {
         }
     }
 
-    /// The hall, and the desks that the places keep.
+    /// Returns the hall and the stored desks.
     pub fn into_parts(self, alloc: Global) -> Result<(Hall<J>, Vec<Desk<J>>), AllocError>
         ensures { IfOk result (λ parts. length parts.1.items ≤ length self.places.list.items) }
     {

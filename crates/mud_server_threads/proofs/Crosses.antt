@@ -1,4 +1,4 @@
--- Which types of the threads may cross threads.
+-- The types of these threads that may cross threads.
 use denote.RattleType.{RattleType}
 use denote.Param.Send.{IsSend, IsSync, sendable}
 use denote.Ref.{NamedLft}
@@ -28,7 +28,7 @@ connection_send J h s = search (sendable, crosses, client_send) depth 40 fits 20
 pub connection_sync : (J : RattleType) (h : HallName.Ghosts J.Denot) → IsSend J → IsSync (Connection.the_row J h)
 connection_sync J h s = search (sendable, crosses, client_send) depth 40 fits 20000
 
--- what a thread of a server is begun with
+-- the values that a thread of a server starts with
 pub server_send : (ℓ : NamedLft) (E J R : RattleType) (h : HallName.Ghosts J.Denot) → IsSend J → IsSync J → IsSync R
     → IsSend (Server.the_row ℓ E J R h)
 server_send ℓ E J R h s y r = search (sendable, scope.the_sync, state_sync, crosses) depth 40 fits 20000

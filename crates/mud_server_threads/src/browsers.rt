@@ -1,4 +1,5 @@
-//! Browsers: each is heard in a thread of its own, which goes on as the reader thread of a session where it is to play.
+//! Browsers: a thread of its own reads each browser's head, and continues as the reader thread of a session if the
+//! browser plays.
 
 use crate::server::{Begun, Server};
 use log::Log;
@@ -11,10 +12,10 @@ use std::sync::{Arc, Wait};
 use std::thread::Threads;
 use std::time::Clock;
 
-/// A browser that is heard: its socket, its address, and its chair.
+/// A browser whose head is being read: its socket, its address, and its chair.
 ///
-/// They are one struct, so that a thread's closure takes few things along: that it may cross threads the prover knows
-/// by a proof of its own.
+/// They are one struct, so that a thread's closure captures few values. A proof of its own shows the prover that it may
+/// cross threads.
 #[derive(Drop)]
 struct Guest {
     socket: Arc<Socket>,
@@ -27,7 +28,7 @@ where
     J: HallName + Send + Sync + 's,
     R: Threads + Wait + Log + Clock + Sync + 's,
 {
-    // Lets a browser in at the place, and is the reader thread of its session, up to the end of that.
+    // Admits a browser to the place, and runs the reader thread of its session to its end.
     fn play_at(&self, at: usize, socket: Arc<Socket>, answer: &[u8], first: &[u8]) {
         let state = self.state;
         let Some(begun) = self.open(at, socket) else {
@@ -51,8 +52,8 @@ where
         }
     }
 
-    // Lets a browser in that is to play, and closes its web socket at once, with the reason for which it can't: a page
-    // does not learn why a request for a web socket was refused.
+    // Admits a browser, and closes its web socket at once with the reason why there is no place. A page can't learn why
+    // a request for a web socket was refused.
     fn turn_away(&self, socket: &Socket, no_place: NoPlace, answer: Vec<u8>) {
         let mut answer = answer;
         let mut channel = Channel::new(self.alloc);
@@ -62,7 +63,7 @@ where
         }
     }
 
-    // Serves a browser that is to play, whose head was at this chair, or turns it away where there is no place for it.
+    // Serves a browser that plays, whose head was read at this chair, or turns it away if there is no place.
     fn play(
         &self,
         chair: u64,
@@ -83,13 +84,13 @@ where
         }
     }
 
-    // What a browser asks for.
+    // Reads the request of a browser.
     fn heard(&self, socket: &Socket) -> Heard {
         let mut reader = HeadReader::new(self.rt, socket);
         hear(self.rt, self.alloc, &mut reader, self.state.lobby.origin())
     }
 
-    // Hears a browser, and answers it.
+    // Reads the request of a browser, and answers it.
     fn attend(&self, guest: Guest) {
         let (rt, lobby) = (self.rt, &self.state.lobby);
         let Guest {
@@ -112,7 +113,7 @@ where
         lobby.release_chair(rt, chair);
     }
 
-    // A browser that has a chair, for who hears it; its socket is the lobby's, too. None where it can't be heard.
+    // Gives a browser a chair. The lobby shares its socket. Returns `None` if there is no chair.
     fn enter_lobby(&self, stream: TcpStream, address: IpAddr) -> Option<Guest> {
         if !set_up(&stream) {
             return None;
@@ -130,7 +131,7 @@ where
         })
     }
 
-    /// Begins a thread that hears a browser; without a chair in the lobby it is sent away.
+    /// Starts a thread that reads a browser's request. A browser without a chair in the lobby is sent away.
     pub fn receive(&self, stream: TcpStream, peer: SocketAddr) {
         let Some(guest) = self.enter_lobby(stream, peer.ip()) else {
             return;

@@ -1,4 +1,4 @@
-//! How the sessions end once no connection is taken any more.
+//! Ends the sessions after the last connection was accepted.
 
 use crate::connection::StateOf;
 use mud_hall::HallName;
@@ -7,14 +7,14 @@ use mud_socket::{Ending, rest};
 use std::sync::Wait;
 use std::time::Duration;
 
-// How long the server waits between two looks at its sessions.
+// How long the server waits between two checks of its sessions.
 const LOOK_MILLISECONDS: u64 = 50;
 
-// How many times it looks, five seconds long, before it shuts the sockets of sessions that are to end.
+// The number of checks, five seconds in all, before it shuts the sockets of sessions that should end.
 const LAST_LOOKS: u32 = 100;
 
-/// Waits until no session is left. Once the server is to end or the journal takes no more, the sessions are to end,
-/// too: a socket that is not shut five seconds later is shut then.
+/// Waits until no session is left. Once the server is shutting down or the journal has failed, the sessions should end
+/// too; a socket that is not shut within five seconds is shut then.
 pub fn see_out<J: HallName, R: Wait>(rt: &R, state: &StateOf<J>, stop: Option<&StopSign>) {
     if stop.is_none() && state.gate.is_open() {
         return;
@@ -24,12 +24,13 @@ pub fn see_out<J: HallName, R: Wait>(rt: &R, state: &StateOf<J>, stop: Option<&S
     }
 }
 
-// Whether no session is left, and none can come of a browser that is heard: it takes its place before it leaves.
+// Returns whether no session is left, and no browser in the lobby can begin one: a browser takes its place before it
+// leaves the lobby.
 fn is_empty<J: HallName, R: Wait>(rt: &R, state: &StateOf<J>) -> bool {
     state.lobby.is_empty() && state.is_empty(rt)
 }
 
-// Waits until no session is left, or those that are left are to end; why they are, if so.
+// Waits until no session is left, or those that are left should end. Returns the reason for that, if there is one.
 fn wait_for_ending<J: HallName, R: Wait>(
     rt: &R,
     state: &StateOf<J>,
@@ -53,8 +54,8 @@ fn wait_for_ending<J: HallName, R: Wait>(
     unreachable!()
 }
 
-// Waits a while until no session is left, and then shuts the sockets of those that are: that ends what their threads
-// read or write there.
+// Waits a while until no session is left, and then shuts the sockets of the others, which ends the reads and writes of
+// their threads.
 fn shut_late<J: HallName, R: Wait>(rt: &R, state: &StateOf<J>, ending: Ending) {
     for _ in 0..LAST_LOOKS {
         if is_empty(rt, state) {

@@ -1,4 +1,4 @@
-//! A connection, which the two threads of its session share, and what both do with it.
+//! Connections: the two threads of a session share one, and these are their common operations.
 
 use mud_client::{Client, End, Framing, Outgoing, Sayings};
 use mud_hall::{Hall, HallName};
@@ -13,29 +13,30 @@ use std::time::{Clock, Duration};
 /// The state of the hall that `J` names.
 pub type StateOf<J> = ServerState<Hall<J>, Places<J>, Wakers>;
 
-/// A connection: its socket, and its client while the session lasts. The lock of the session is taken by its reader
-/// thread and its notice thread, and by nobody else.
+/// A connection: its socket, and its client during the session. Only the reader thread and the notice thread of the
+/// session take the session's lock.
 #[derive(Drop)]
 pub(crate) struct Connection<J: HallName> {
     socket: Arc<Socket>,
     client: Mutex<Option<Client<J>>>,
-    // When a line was answered last, in microseconds; 0 where none was since the notice thread asked last.
+    // The time of the last answered line, in microseconds; 0 if there was none since the notice thread asked last.
     answered: AtomicU64,
-    // Whether the reader thread brings the session down: the socket is its own then.
+    // True once the reader thread ends the session and owns the socket.
     hangs_up: AtomicBool,
 }
 
-// How often it is tried, four seconds long, to say the last to a session that is busy, and how long between two tries.
+// The number of attempts, four seconds in all, to send the last line to a busy session, and the pause between two of
+// them.
 const CLOSE_TRIES: u32 = 80;
 
 const CLOSE_MILLISECONDS: u64 = 50;
 
-// How many entries are synced, as far as sessions count.
+// Returns the number of synced entries, as far as sessions count.
 pub(crate) fn synced_entries<R: Wait, J: HallName>(rt: &R, state: &StateOf<J>) -> u32 {
     u32::try_from(state.gate.synced_count(rt)).unwrap_or(u32::MAX)
 }
 
-// What ended a session whose client ended so.
+// Returns the reason of a session whose client has this end.
 fn parting_of(end: End) -> Parting {
     match end {
         End::Quit | End::NotText | End::Earlier => Parting::Left,
@@ -45,7 +46,7 @@ fn parting_of(end: End) -> Parting {
 }
 
 impl<J: HallName> Connection<J> {
-    /// A connection whose session has not begun.
+    /// Returns a connection whose session has not begun.
     pub(crate) fn new(socket: Arc<Socket>) -> Connection<J> {
         Connection {
             socket,
@@ -55,23 +56,23 @@ impl<J: HallName> Connection<J> {
         }
     }
 
-    /// Its socket.
+    /// Returns its socket.
     pub(crate) fn socket(&self) -> &Socket {
         &self.socket
     }
 
-    /// Its client, under the lock.
+    /// Returns its client, under the lock.
     pub(crate) fn client(&self) -> &Mutex<Option<Client<J>>> {
         &self.client
     }
 
-    /// A line was answered now, and what others had done was told before.
+    /// Records that a line was answered now, with the notices before it.
     pub(crate) fn note_answer(&self, now: Duration) {
         let micros = u64::try_from(now.as_micros()).unwrap_or(u64::MAX);
         self.answered.store(micros.max(1), Ordering::Relaxed);
     }
 
-    /// When a line was answered last, if one was since this was asked last.
+    /// Returns the time of the last answered line, if there was one since the last call.
     pub(crate) fn last_answer(&self) -> Option<Duration> {
         match self.answered.swap(0, Ordering::Relaxed) {
             0 => None,
@@ -79,22 +80,23 @@ impl<J: HallName> Connection<J> {
         }
     }
 
-    /// The reader thread brings the session down from now on.
+    /// Records that the reader thread ends the session.
     pub(crate) fn hang_up(&self) {
         self.hangs_up.store(true, Ordering::SeqCst);
     }
 
-    /// Whether the reader thread brings the session down.
+    /// Returns whether the reader thread ends the session.
     pub(crate) fn is_hanging_up(&self) -> bool {
         self.hangs_up.load(Ordering::SeqCst)
     }
 
-    /// Lets a browser in by this answer to its head; whether it was taken.
+    /// Sends a browser the answer to its head. Returns whether it took the answer.
     pub(crate) fn let_in<R: Wait + Clock>(&self, rt: &R, answer: &[u8]) -> bool {
         self.socket.wait_for_ever() && self.socket.send(rt, answer).is_ok()
     }
 
-    /// Begins the session at a place; the number of its desk. Where memory ran out or no desk is left, there is none.
+    /// Begins the session at a place. Returns the number of its desk, or `None` if an allocation fails or no desk is
+    /// left.
     pub(crate) fn start<R: Wait>(
         &self,
         rt: &R,
@@ -120,14 +122,14 @@ impl<J: HallName> Connection<J> {
         }
     }
 
-    /// Ends the session: its desk is kept for the next one, and its place is free. The socket is shut first, which ends
-    /// a write that the other thread waits for under the lock.
+    /// Ends the session: stores its desk for the next one, and frees its place. The socket is shut first, which ends a
+    /// write of the other thread under the lock.
     pub(crate) fn leave<R: Wait>(&self, rt: &R, state: &StateOf<J>, at: usize) {
         self.socket.shut();
         self.give_back(rt, state, at);
     }
 
-    /// Gives the desk back to its place and leaves the socket open, for a web socket that was closed already.
+    /// Returns the desk to its place and leaves the socket open, for a web socket that was closed already.
     pub(crate) fn give_back<R: Wait>(&self, rt: &R, state: &StateOf<J>, at: usize) {
         let client = self.client.lock(rt).take();
         if let Some(client) = client {
@@ -136,7 +138,7 @@ impl<J: HallName> Connection<J> {
         state.release_place(rt, at);
     }
 
-    // Sends a text once the versions that it may name are synced; an empty one names none.
+    // Sends a text after the versions that it can name are synced; an empty text names none.
     fn send_text<R: Wait + Clock>(
         &self,
         rt: &R,
@@ -152,8 +154,9 @@ impl<J: HallName> Connection<J> {
         }
     }
 
-    /// Under the session's lock, sends what it gives once what that may name is synced; whether the session goes on.
-    /// Where frames have ended it, they ended it first, whether the other side takes the close or not.
+    /// Sends the output of a step, under the session's lock, after the versions that it can name are synced. Returns
+    /// whether the session continues. If frames have ended it, that is the first reason, whether or not the other side
+    /// takes the close.
     pub(crate) fn send<R: Wait + Clock>(
         &self,
         rt: &R,
@@ -182,7 +185,7 @@ impl<J: HallName> Connection<J> {
         }
     }
 
-    /// Under the session's lock, says why all sessions end.
+    /// Sends why all sessions end, under the session's lock.
     pub(crate) fn end_with_all<R: Wait>(
         &self,
         rt: &R,
@@ -195,7 +198,7 @@ impl<J: HallName> Connection<J> {
         }
     }
 
-    // Under the session's lock, closes its web socket for this reason, or for that for which it has ended.
+    // Closes the web socket, under the session's lock, for this reason or for the one for which the session has ended.
     fn close<R: Wait>(&self, rt: &R, client: &mut Option<Client<J>>, parting: Parting) {
         let first = self.socket.part(rt, parting);
         if let Some(before) = client.take() {
@@ -206,8 +209,9 @@ impl<J: HallName> Connection<J> {
         self.socket.end_writing();
     }
 
-    /// The session ends for this reason, unless it has ended for another. A web socket is closed if the session's lock
-    /// is free within four seconds: who holds it for longer waits for the other side. Whether it was closed.
+    /// Ends the session for this reason, unless it has ended for another. It closes a web socket if the session's lock
+    /// becomes free within four seconds; a thread that holds it longer waits for the other side. Returns whether it was
+    /// closed.
     pub(crate) fn part<R: Wait>(&self, rt: &R, parting: Parting) -> bool {
         self.socket.part(rt, parting);
         if self.socket.entrance() == Entrance::Telnet {
@@ -223,7 +227,7 @@ impl<J: HallName> Connection<J> {
         false
     }
 
-    /// Says why all sessions end. By Telnet the socket is shut then; the other side of a web socket closes it.
+    /// Sends why all sessions end. With Telnet the socket is then shut; the other side of a web socket closes it.
     pub(crate) fn tell_ending<R: Wait>(&self, rt: &R, ending: Ending) {
         match self.socket.entrance() {
             Entrance::Telnet => {
@@ -236,8 +240,8 @@ impl<J: HallName> Connection<J> {
         }
     }
 
-    // By Telnet says why all sessions end, if the session's lock is free within four seconds: else it would stand in a
-    // text that is being sent.
+    // Sends to a Telnet session why all sessions end, if the session's lock becomes free within four seconds. Otherwise
+    // the line would be inside a text that is being sent.
     fn say_ending<R: Wait>(&self, rt: &R, ending: Ending) {
         for _ in 0..CLOSE_TRIES {
             if let Some(_guard) = self.client.try_lock() {
@@ -248,9 +252,9 @@ impl<J: HallName> Connection<J> {
         }
     }
 
-    /// Has the session, under its lock, look for what others did, as far as it is synced, and sends what it says;
-    /// whether the session goes on. How far that is, is asked first: so nothing but the other side is waited for under
-    /// the lock. The hall's lock isn't taken for it, however much there is.
+    /// Makes the session look for changes of others, under its lock, as far as they are synced, and sends its output.
+    /// Returns whether the session continues. The number of synced entries is read first, so that under the lock the
+    /// thread waits only for the other side. The hall's lock is not taken, however many changes there are.
     pub(crate) fn look<R: Wait + Clock>(&self, rt: &R, state: &StateOf<J>) -> bool {
         let most = synced_entries(rt, state);
         let mut guard = self.client.lock(rt);

@@ -1,17 +1,17 @@
-//! The threads of a server, but for the one that takes connections and the one that writes a journal.
+//! The threads of a server, except the accepting one and the one that writes a journal.
 //!
-//! A [`Server`] is what each thread that begins others has. It lets somebody in by Telnet (`welcome`), or has a browser
-//! heard, which may come to play (`receive`). A session has two threads with one connection between them: the reader
-//! thread, which serves what comes, and the notice thread, which tells what others did. [`see_out`] waits until all
-//! have ended. docs/SERVER.md says what they lock and who wakes whom.
+//! Each thread that starts others has a [`Server`]. It admits a Telnet connection (`welcome`), or has a browser's
+//! request read, which may play (`receive`). A session has two threads that share one connection: the reader thread,
+//! which serves the input, and the notice thread, which sends the changes of others. [`see_out`] waits until all have
+//! ended. docs/SERVER.md has their locks, and says which thread wakes which.
 //!
-//! Memory: a `Connection` is shared by its two threads alone, and owns the socket and, under the session's lock, the
-//! client; its end gives the desk back to the shared state. A reader thread blocks on its socket with no lock held, and
-//! on the journal's sync before it sends; under the session's lock it may wait for the hall. A notice thread sleeps
-//! until it is woken. A write blocks for a minute at most on a player who reads nothing, and then ends the session.
+//! Memory: only its two threads share a `Connection`. It owns the socket and, under the session's lock, the client; its
+//! end returns the desk to the shared state. A reader thread blocks on its socket with no lock held, and on the
+//! journal's sync before it sends; under the session's lock it may block on the hall. A notice thread sleeps until it
+//! is woken. A write blocks for a minute at most on a player who reads nothing, and then ends the session.
 //!
-//! No contract says what a thread does: tests show it. Proved is that none can come to a fault, and by their types that
-//! a text which names a version waits for its sync. The contracts of `mud_client` say what is to be sent for what came.
+//! No contract states what a thread does; tests show it. Proved: no thread can fault, and by the types a text that
+//! names a version waits for its sync. The contracts of `mud_client` state the output for an input.
 #![tactic(auto)]
 
 mod browsers;

@@ -1,4 +1,4 @@
-//! The notice thread of a session.
+//! Runs the notice thread of a session.
 
 use crate::connection::{Connection, StateOf};
 use crossbeam_utils::sync::Parker;
@@ -7,27 +7,27 @@ use mud_socket::{Parting, now, rest};
 use std::sync::Wait;
 use std::time::{Clock, Duration};
 
-// With this many sessions or more it rests longest after each look at what others did.
+// The number of sessions from which it takes the longest rest after each look.
 const MOST_BUSY: u32 = 32;
 
-/// What a notice thread sleeps on until a waker wakes it.
+/// The parker on which a notice thread sleeps until its waker wakes it.
 ///
-/// That it may cross threads the prover knows of this struct by a proof of its own. Of the bare `Parker`, whose type
-/// names an allocator, its search does not find it.
+/// A proof of its own shows the prover that this struct may cross threads. For the bare `Parker`, whose type names an
+/// allocator, the prover's search does not find that.
 #[derive(Drop)]
 pub(crate) struct Sleeper {
     pub(crate) parker: Parker,
 }
 
-// How long it rests after a look: in microseconds the square of how many sessions there are. Each wakes all the others,
-// so that is how the wake-ups grow.
+// Returns the rest after a look: in microseconds the square of the number of sessions. Each session wakes all others,
+// so the number of wake-ups grows in this way.
 fn pause<J: HallName>(state: &StateOf<J>) -> Duration {
     let busy = u64::from(state.session_count().min(MOST_BUSY));
     Duration::from_micros(busy * busy)
 }
 
-// Waits while the player's own lines bring him what others did, which saves a text of its own: until none was answered
-// for the length of a rest, or all sessions end.
+// Waits while the answers to the player's own lines bring the changes of others, which saves texts: until no line was
+// answered for the length of a rest, or all sessions end.
 fn leave_to_reader<J: HallName, R: Wait + Clock>(
     rt: &R,
     state: &StateOf<J>,
@@ -45,11 +45,12 @@ fn leave_to_reader<J: HallName, R: Wait + Clock>(
     }
 }
 
-/// The notice thread of a session: each time it is woken, the session looks for what others did. Where it fails, the
-/// shut socket ends the reader thread, unless that is at the end already.
+/// Runs the notice thread of a session: each time it is woken, the session looks for changes of others. If that fails,
+/// the shut socket ends the reader thread, unless that is already ending.
 ///
-/// Whether all sessions end is looked for before the first sleep, too: who is woken for that is known by then. While it
-/// rests, a wake-up is kept and costs whoever wakes it no call: so what is done in a busy world is told together.
+/// It checks whether all sessions end before the first sleep too, because the wake-up for that may have come already.
+/// While it rests, a wake-up is kept and costs the waking thread no system call. So in a busy world several changes are
+/// sent together.
 pub(crate) fn tell_all<J: HallName, R: Wait + Clock>(
     rt: &R,
     state: &StateOf<J>,

@@ -1,4 +1,4 @@
-//! The reader thread of a session.
+//! Runs the reader thread of a session.
 
 ghost use Rattle.std.specs.Prelude.{◌≤◌, length, IfOk};
 
@@ -15,12 +15,13 @@ use std::time::Clock;
 
 const BUFFER_LEN: usize = 4096;
 
-// After how many seconds the log names a session by Telnet that has said nothing which tells it from a browser.
+// The number of seconds after which the log names a Telnet session that has sent nothing to distinguish it from a
+// browser.
 const SILENT_SECONDS: u32 = 1;
 
-// What a reader thread works with: the connection, the place of its session and the number of its desk, for how long
-// the log waits to name it, and for how long it waits for the other side; what is known of its first line, whether it
-// has begun, was named in the log, and is counted as a player's.
+// The state of a reader thread. It has the connection, the place of its session and the number of its desk, how long
+// the log waits to name it, and its time limits. Flags say what is known about its first line, whether it has begun,
+// was named in the log, and counts as a player's.
 #[derive(Drop)]
 struct Reading<'a, J: HallName, R> {
     rt: &'a R,
@@ -38,7 +39,7 @@ struct Reading<'a, J: HallName, R> {
 }
 
 impl<'a, J: HallName, R: Threads + Wait + Log + Clock + Sync> Reading<'a, J, R> {
-    // The session at the place waits for its player from now on.
+    // Returns the state for the session at the place, whose time limit for a player begins now.
     fn new(
         rt: &'a R,
         state: &'a StateOf<J>,
@@ -63,7 +64,7 @@ impl<'a, J: HallName, R: Threads + Wait + Log + Clock + Sync> Reading<'a, J, R> 
         }
     }
 
-    // The log names the session, if it has not yet. From now on a read waits as long as the patience is.
+    // Names the session in the log, if it was not named yet. From now on a read waits as long as the patience allows.
     fn name(&mut self) {
         if !self.is_named {
             self.is_named = true;
@@ -73,7 +74,7 @@ impl<'a, J: HallName, R: Threads + Wait + Log + Clock + Sync> Reading<'a, J, R> 
         }
     }
 
-    // The session has begun: it counts for the total, and the log names it.
+    // Begins the session: it counts for the total, and the log names it.
     fn begin(&mut self) {
         if !self.has_begun {
             self.has_begun = true;
@@ -82,9 +83,9 @@ impl<'a, J: HallName, R: Threads + Wait + Log + Clock + Sync> Reading<'a, J, R> 
         self.name();
     }
 
-    // Whether what came first by Telnet is a browser's request, this piece being the next. Once it is known to be none,
-    // the session has begun. As long as it may become one, no line of it has ended but blank ones, so the session may
-    // have it (the law `undecided_ends_no_line` of `mud_web`).
+    // Returns whether the first input of a Telnet session, continued by this piece, is a browser's request. Once it is
+    // known not to be, the session has begun. While it may still become one, only blank lines of it are complete, so
+    // the session may have them (the law `undecided_ends_no_line` of `mud_web`).
     fn is_request(&mut self, bytes: &[u8]) -> bool {
         if self.has_begun {
             return false;
@@ -99,12 +100,12 @@ impl<'a, J: HallName, R: Threads + Wait + Log + Clock + Sync> Reading<'a, J, R> 
         }
     }
 
-    // A line came now.
+    // Records that a line came now.
     fn hear(&mut self) {
         self.patience.hear(now(self.rt));
     }
 
-    // Where the session has made a change, others are told: there are as many entries at least. With its first one it
+    // Announces a change of the session to the others: there are at least that many entries. With its first change it
     // counts as a player's.
     fn tell_change(&mut self, outgoing: &Outgoing) {
         let Some(version) = outgoing.accepted else {
@@ -118,8 +119,8 @@ impl<'a, J: HallName, R: Threads + Wait + Log + Clock + Sync> Reading<'a, J, R> 
         }
     }
 
-    // After a step: others are told of its change, a session that is a player's now waits for none any more, and the
-    // notice thread learns when a line was answered.
+    // Finishes a step: announces its change, ends the time limit for a player once there is one, and tells the notice
+    // thread when a line was answered.
     fn tell(&mut self, outgoing: &Outgoing) {
         self.tell_change(outgoing);
         if outgoing.has_player {
@@ -130,10 +131,11 @@ impl<'a, J: HallName, R: Threads + Wait + Log + Clock + Sync> Reading<'a, J, R> 
         }
     }
 
-    // Under the session's lock, gives it bytes, asks for the sync of a change that was accepted, and sends what it
-    // gives once what that may name is synced; whether lines wait then, or nothing where it does not go on. It asks
-    // first: to send may wait for the other side. Once all sessions are to end, it says so in place of an answer: one
-    // who types without a pause leaves the notice thread no moment in which the lock is free.
+    // Feeds bytes to the session, under its lock, requests the sync of an accepted change, and sends the output once
+    // the versions that it can name are synced. Returns whether lines wait then, or `None` if the session does not
+    // continue. The request comes first, because sending may wait for the other side. Once all sessions end, it sends
+    // that instead of an answer: a player who types without a pause leaves the notice thread no moment in which the
+    // lock is free.
     fn step(&mut self, bytes: &[u8]) -> Option<bool> {
         let (rt, state, connection) = (self.rt, self.state, self.connection);
         let mut guard = connection.client().lock(rt);
@@ -162,7 +164,7 @@ impl<'a, J: HallName, R: Threads + Wait + Log + Clock + Sync> Reading<'a, J, R> 
         self.step(bytes)
     }
 
-    // Sends the greeting, and gives the session what came already and all that comes; what ends it.
+    // Sends the greeting, and serves the input, beginning with `first`. Returns the reason for the end.
     fn greet_and_converse(&mut self, first: &[u8]) -> Parting {
         if self.has_begun {
             self.name();
@@ -176,8 +178,9 @@ impl<'a, J: HallName, R: Threads + Wait + Log + Clock + Sync> Reading<'a, J, R> 
         }
     }
 
-    // Gives the session what came already and all that comes, up to the end of either; what ends it, if that is not in
-    // what came. What a line is answered is sent before the next is looked at: so no more is kept than that.
+    // Serves the input, beginning with `first`, to the end of the input or of the session. The error is the reason for
+    // the end, if the input does not show it. The answer to a line is sent before the next line is read, so no more
+    // than one answer is kept.
     fn converse(&mut self, first: &[u8]) -> Result<(), Parting> {
         let mut buffer = [0u8; BUFFER_LEN];
         let mut waits = self.take_in(first);
@@ -194,7 +197,7 @@ impl<'a, J: HallName, R: Threads + Wait + Log + Clock + Sync> Reading<'a, J, R> 
         unreachable!()
     }
 
-    // Reads what comes next, and waits a moment only until the log names the session; how many bytes came.
+    // Reads the next bytes, with a short wait until the log names the session. Returns the number of bytes.
     fn next_piece(&mut self, buffer: &mut [u8]) -> Result<usize, Parting>
         ensures { IfOk result (λ count. count ≤ length buffer.old) }
     {
@@ -211,8 +214,8 @@ impl<'a, J: HallName, R: Threads + Wait + Log + Clock + Sync> Reading<'a, J, R> 
         }
     }
 
-    // The session ends for this reason, unless it has ended for another, and gives its place back. What the other side
-    // of a web socket that was closed still sends is let go then.
+    // Ends the session for this reason, unless it has ended for another, and releases its place. Then it drains a web
+    // socket that was closed.
     fn hang_up(&mut self, parting: Parting) {
         let (rt, connection) = (self.rt, self.connection);
         connection.hang_up();
@@ -227,7 +230,8 @@ impl<'a, J: HallName, R: Threads + Wait + Log + Clock + Sync> Reading<'a, J, R> 
         }
     }
 
-    // The log names what ended the session. A browser's request was none, and is told once a second at most.
+    // Logs the reason for the end of the session. A browser's request was not a session, and is logged at most once a
+    // second.
     fn tell_end(&mut self) {
         let (rt, state) = (self.rt, self.state);
         let parting = self.connection.socket().part(rt, Parting::Left);
@@ -245,8 +249,8 @@ impl<'a, J: HallName, R: Threads + Wait + Log + Clock + Sync> Reading<'a, J, R> 
     }
 }
 
-/// The reader thread of the session at a place, at the desk of this number: it sends the greeting, gives the session
-/// what came already and all that comes, and brings it down.
+/// Runs the reader thread of the session at a place, at the desk with this number: it sends the greeting, serves the
+/// input, beginning with `first`, and ends the session.
 pub(crate) fn read_all<'a, J: HallName, R: Threads + Wait + Log + Clock + Sync>(
     rt: &'a R,
     state: &'a StateOf<J>,

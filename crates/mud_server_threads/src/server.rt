@@ -1,4 +1,4 @@
-//! What the threads of a server are begun with, and how a session begins.
+//! Starts threads and sessions.
 
 use crate::connection::{Connection, StateOf};
 use crate::notice::{Sleeper, tell_all};
@@ -14,11 +14,11 @@ use std::sync::{Arc, Wait};
 use std::thread::{Scope, Threads};
 use std::time::Clock;
 
-/// What each thread of a server that begins others has: the scope in which they run, the handle by which, memory, and
-/// the state that all share.
+/// The values of each thread that starts others: the scope in which they run, the handle that starts them, the
+/// allocator, and the shared state.
 ///
-/// They are one struct, since the prover's search for what may cross threads gives up on a closure that takes many
-/// things along. Each method that begins a thread cites lemmas for what its closure takes (`proofs/Crosses.antt`).
+/// They are one struct, because the prover's search for types that may cross threads gives up on a closure that
+/// captures many values. Each method that starts a thread cites lemmas for the captured values (`proofs/Crosses.antt`).
 #[derive(Drop)]
 pub struct Server<'s, E, J: HallName, R> {
     pub scope: &'s Scope<'s, E>,
@@ -27,7 +27,7 @@ pub struct Server<'s, E, J: HallName, R> {
     pub state: &'s StateOf<J>,
 }
 
-/// What the threads of a new session are given.
+/// The values for the threads of a new session.
 #[derive(Drop)]
 pub(crate) struct Begun<J: HallName> {
     pub(crate) kept: Arc<Connection<J>>,
@@ -42,7 +42,7 @@ where
     J: HallName + Send + Sync + 's,
     R: Threads + Wait + Log + Clock + Sync + 's,
 {
-    /// Returns a copy for another thread. A derived `Clone` would ask `Clone` of what this only refers to.
+    /// Returns a copy for another thread. A derived `Clone` would require `Clone` of what this only refers to.
     pub fn again(&self) -> Server<'s, E, J, R> {
         let Server {
             scope,
@@ -58,7 +58,7 @@ where
         }
     }
 
-    /// How many sessions count for the total.
+    /// Returns the number of sessions that count for the total.
     pub fn counted_sessions(&self) -> u32 {
         if self.state.limits.counts_players {
             self.state.player_count()
@@ -67,7 +67,7 @@ where
         }
     }
 
-    /// The free place of the lowest number for a session of this address, which is about to begin.
+    /// Takes the free place with the lowest number for a session of this address that is about to begin.
     pub(crate) fn admit(&self, address: IpAddr) -> Result<usize, NoPlace> {
         let lobby = &self.state.lobby;
         if !lobby.take_ticket(&self.state.limits) {
@@ -80,8 +80,8 @@ where
         place
     }
 
-    /// A session at the place. What can fail without a desk comes first. The notice thread is known before the desk is
-    /// made, so that it misses no change.
+    /// Opens a session at the place. Everything that can fail without a desk comes first. The notice thread's waker is
+    /// set before the desk is made, so that it misses no change.
     pub(crate) fn open(&self, at: usize, socket: Arc<Socket>) -> Option<Begun<J>> {
         let parker = Parker::new(self.alloc).ok()?;
         let unparker = parker.unparker().clone().ok()?;
@@ -103,24 +103,25 @@ where
         })
     }
 
-    // Is the notice thread of a session.
+    // Runs the notice thread of a session.
     fn tell(&self, connection: &Connection<J>, sleeper: &Sleeper) {
         tell_all(self.rt, self.state, connection, sleeper);
     }
 
-    /// Begins the notice thread of a session; whether it could be.
+    /// Starts the notice thread of a session. Returns whether it could be started.
     pub(crate) fn begin_telling(&self, tells: Arc<Connection<J>>, sleeper: Sleeper) -> bool {
         let server = self.again();
         let telling = self.scope.spawn(move || server.tell(&tells, &sleeper));
         telling.is_ok()
     }
 
-    /// Is the reader thread of the session at a place, at the desk of this number, to which this came already.
+    /// Runs the reader thread of the session at a place, at the desk with this number, with this first input.
     pub(crate) fn read(&self, connection: &Connection<J>, at: usize, number: u32, first: &[u8]) {
         read_all(self.rt, self.state, connection, at, number, first);
     }
 
-    /// Begins the reader thread of the session at a place, at the desk of this number; whether it could be.
+    /// Starts the reader thread of the session at a place, at the desk with this number. Returns whether it could be
+    /// started.
     pub(crate) fn begin_reading(&self, reads: Arc<Connection<J>>, at: usize, number: u32) -> bool {
         let server = self.again();
         let reading = self

@@ -1,4 +1,4 @@
-//! Those who come by Telnet: each has a session at once, or is refused.
+//! Telnet connections: each gets a session at once, or is refused.
 
 use crate::server::{Begun, Server};
 use log::Log;
@@ -23,7 +23,7 @@ where
     J: HallName + Send + Sync + 's,
     R: Threads + Wait + Log + Clock + Sync + 's,
 {
-    // Begins a session by Telnet at the place; whether it did.
+    // Begins a Telnet session at the place. Returns whether it did.
     fn begin(&self, at: usize, stream: TcpStream) -> bool {
         let (rt, state) = (self.rt, self.state);
         let opened = match Arc::new(self.alloc, Socket::new(stream, Entrance::Telnet)) {
@@ -48,8 +48,8 @@ where
         has_begun
     }
 
-    /// Serves a connection by Telnet, or refuses it where there is no place for it. Once what comes shows that it is no
-    /// browser's request, its reader thread says that its session has begun.
+    /// Serves a Telnet connection, or refuses it if there is no place. Its reader thread says that the session has
+    /// begun, once the input shows that it is not a browser's request.
     pub fn welcome(&self, stream: TcpStream, peer: SocketAddr) {
         if !set_up(&stream) {
             return;

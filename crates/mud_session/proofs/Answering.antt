@@ -1,4 +1,4 @@
--- What a session does with a line.
+-- The effect of a line on a session.
 use Rattle.std.proofs.Common.{◌≡◌, ◌≢◌, ℕ, Bool, true, false, List, [], ◌++◌, Some, Result, Ok, Err, refl, sym, ap}
 use Rattle.std.proofs.Common.{subst, ◌∙◌, append_assoc, ◌⊎◌, inl, inr}
 use Rattle.std.specs.Prelude.{OnOk, codes, is_some}
@@ -31,7 +31,7 @@ on_ok (Err e) f h = tt
 
 -- ---- the reply
 
--- what is replied to a change
+-- the reply to a change
 stored : (capacity : ℕ) (ready : DeskState) (e : Change) (reply : Reply) (new : DeskState)
     → Stores capacity ready e reply new → IsSaid reply
 stored capacity ready e (Accepted v text) new h = tt
@@ -43,7 +43,7 @@ stored capacity ready e (Became v text) new h = absurd h
 stored capacity ready e (Refused v refusal text) new h = absurd h
 stored capacity ready e (Question v) new h = absurd h
 
--- a line that is no question gets a reply of one that acts
+-- a line that does not ask gets a reply of one that acts
 pub sayable : AreQuestions → (capacity : ℕ) (ready : DeskState) (line : Line) (reply : Reply) (new : DeskState)
     → is_question line ≡ false
     → Replies capacity ready line reply new → IsSaid reply
@@ -73,7 +73,7 @@ looked T s0 s1 d0 d1 d2 goes takes told = record {
 
 -- ---- the turn of a line
 
--- memory was refused before the line came to anything
+-- an allocation failed before the line had an effect
 pub unanswered : (T : TakingIn) (line : List ℕ) (s0 s1 s2 : SessionState) (d0 d1 d2 : DoorState) → is_blank line ≡ false
     → Nudges T s0 s1 d0 d1 → d2.desk ≡ d1.desk → s2 ≡ sends s1 (wire_text (codes "(out of memory)"))
     → HasTurn T (Text line) s0 s2 d0 d2
@@ -176,7 +176,7 @@ acted T text line s0 s1 s2 d0 d1 d2 reply goes heard read other (ready, takes, r
         (λ e. let bad : ◌≡◌ {A = Reply} (Failed Unpublished) (Failed OutOfMemory) = e in cc) rs kept all is
     go (Failed DesksFull) rs kept all can is = absurd can
 
--- ---- the turn of a unit that no desk hears
+-- ---- the turn of a unit that does not reach the desk
 
 pub rested : (T : TakingIn) (u : Given) (old new : SessionState) (old_door new_door : DoorState) → old.has_ended ≡ false
     → is_heard u ≡ false → new ≡ sends old (answer_to (Rests u)) → new_door ≡ old_door

@@ -8,7 +8,7 @@ use Rattle.mud_hall.specs.Steps.{Call, See, Act, Ask, Told, Performs, PerformsAl
 use Rattle.mud_session.specs.Session.{TakingIn, Case, Rests, Looks, Fails, Asks, Acts, Turn, Sees, Does, Plays}
 use Rattle.mud_session.specs.Laws.{calls_of, all_calls}
 
--- what holds of each call that a turn makes
+-- a property of each call that a turn makes
 pub record HoldsOfCalls (T : TakingIn) (P : ℕ → DeskState → Call → DeskState → Type 0) : Type 0 where
   pub sees : (capacity : ℕ) (old new : DeskState) → T old new → P capacity old See new
   pub tells : (capacity : ℕ) (old : DeskState) (lines : List (List ℕ)) (new : DeskState) → HandsOut old lines new
@@ -18,7 +18,7 @@ pub record HoldsOfCalls (T : TakingIn) (P : ℕ → DeskState → Call → DeskS
   pub acts : (capacity : ℕ) (old ready : DeskState) (line : List ℕ) (reply : Reply) (new : DeskState) → T old ready
       → Replies capacity ready (parse_of line) reply new → P capacity old (Act line reply) new
 
--- it holds of calls one after the other
+-- the property holds for successive calls
 abbrev pub HoldsOfAll : (DeskState → Call → DeskState → Type 0) → DeskState → List Call → DeskState → Type 0
 HoldsOfAll P old [] new = new ≡ old
 HoldsOfAll P old (call ∷ calls) new = (now : DeskState) × P old call now × HoldsOfAll P now calls new
@@ -52,7 +52,7 @@ turned T P holds capacity old (Acts line reply) lines new (heard, other, acts) =
   (new, holds.tells capacity acts.acted lines new acts.tells, refl),
 )
 
--- what holds of each call holds of all calls of some turns
+-- a property of each call holds for all calls of some turns
 pub all_turned : (T : TakingIn) (P : ℕ → DeskState → Call → DeskState → Type 0) → HoldsOfCalls T P → (capacity : ℕ)
     (old new : DeskState) (turns : List Turn) → Plays T capacity old turns new
     → HoldsOfAll (P capacity) old (all_calls turns) new

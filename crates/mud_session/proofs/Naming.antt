@@ -107,7 +107,7 @@ all-right : {X : Type 0} (P : X → Type 0) (xs ys : List X) → All P (xs ++ ys
 all-right P [] ys all = all
 all-right P (x ∷ xs) ys all = all-right P xs ys (All-tail P x (xs ++ ys) all)
 
--- ---- what a desk is told
+-- ---- the notices of a desk
 
 of-notice : (n v : ℕ) (w : World) (e : Change) (p : ℕ) (line : Option (List ℕ)) → heard_line w e p ≡ line → v ≤ n
     → All (IsNotice n) (notice_of v line)
@@ -127,7 +127,7 @@ all-notices n player h (e ∷ es) le =
     (in-notice n (length h + 1) player (world_after h) e (omega arith))
     (all-notices n player (h ++ e ∷ []) es (omega (arith, length-append h (e ∷ []))))
 
--- a desk has seen more, what was sent of what it was told names nothing beyond, nor does what it is told later
+-- a desk has seen more, and neither the notices sent nor the later ones name a version beyond that
 record Tells (old : DeskState) (lines : List (List ℕ)) (new : DeskState) : Type 0 where
   grows : length old.seen ≤ length new.seen
   handed : All (IsNotice (length new.seen)) lines
@@ -155,9 +155,9 @@ tells old lines new once told =
       told = all-right (IsNotice n) lines new.told both;
     }
 
--- ---- what is replied
+-- ---- replies
 
--- what is said to a line that acts, if anything is, names nothing beyond
+-- the reply to a line that acts, if there is one, names no version beyond
 abbrev NamesSaid : ℕ → Option (List ℕ) → Type 0
 NamesSaid n None = Unit {0}
 NamesSaid n (Some text) = NamesUpTo n (wire_text text)
@@ -205,14 +205,14 @@ replied capacity ready line reply new h =
         (inr (inr (inl (f, refl)))))
     go (verdict.Ask q) (inr c) = by (Question (length ready.seen)) c.0 tt
 
--- what is sent for the reply, too
+-- neither does the output for the reply
 said-or-none : (n : ℕ) (reply : Option (List ℕ)) → NamesSaid n reply → NamesUpTo n (option_map_or wire_text reply [])
 said-or-none n None names = names-nil n
 said-or-none n (Some text) names = names
 
--- ---- what the terminal answers
+-- ---- answers of the terminal
 
--- an answer of the terminal is one to a request
+-- an answer of the terminal answers a request
 abbrev Signals : Option Given → Type 0
 Signals (Some (Answer bytes)) = (verb : ℕ) × (option : ℕ) × (bytes ≡ IAC ∷ verb ∷ option ∷ [])
 Signals other = Unit {0}
@@ -256,13 +256,13 @@ fresh-signals before fresh after is all =
 
 -- ---- turns
 
--- what is sent in these turns names nothing beyond what the desk has seen then
+-- the output of these turns names no version beyond the entries that the desk has seen then
 record Goes (old : DeskState) (text : List ℕ) (new : DeskState) : Type 0 where
   grows : length old.seen ≤ length new.seen
   names : NamesUpTo (length new.seen) text
   told : All (IsNotice (length new.seen)) new.told
 
--- what is sent for a unit names nothing beyond
+-- the output for a unit names no version beyond
 rested : (n : ℕ) (unit : Given) → Signals (Some unit) → NamesUpTo n (answer_to (Rests unit))
 rested n TooLong signals = names-plain n (codes "(line too long)") (4, omega arith, refl)
 rested n Ayt signals = names-plain n (codes "[Yes]") (5, omega arith, refl)
@@ -361,7 +361,7 @@ nothing_beyond old new was is names = (feeds old new was is names, nudges old ne
 
 -- ---- for callers
 
--- a session to which nothing came, and which greets or not, at a desk that was told nothing
+-- a session in its initial state, with or without a greeting, at a desk without notices
 pub begins_so : (session : SessionState) (desk : DeskState) (greet : Bool) → StandsAfter session.terminal []
     → session.out ≡ (if greet then greeting else []) → desk.told ≡ [] → NamesSeen session desk
 begins_so session desk greet stands out told = record {
@@ -375,7 +375,7 @@ begins_so session desk greet stands out told = record {
     go true = names-plain (length desk.seen) (codes "Welcome. Type: connect NAME") (0, omega arith, refl)
     go false = names-nil (length desk.seen)
 
--- what was to be sent was taken out
+-- the output was taken out
 pub taken_so : (old new : SessionState) (desk : DeskState) → NamesSeen old desk → new ≡ record old { out = [] }
     → NamesSeen new desk
 taken_so old new desk names is = record {

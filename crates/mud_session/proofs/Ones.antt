@@ -84,7 +84,7 @@ answers-one s line a b x y =
     ∙ ap (with_version b.version) (shows-one s.seen s.player (verdict_on s.seen s.player line) a b x.shows y.shows)
 
 -- ---- replies
--- what a line that acts is answered where nothing is not stored, and the desk then
+-- the reply to a line that acts, if every entry is stored, and the desk then
 abbrev text_then : ℕ → DeskState → Verdict → List ℕ
 text_then capacity s (verdict.Change e) =
     if nat_lt (length s.seen) capacity then with_version (length s.seen + 1)
@@ -150,7 +150,7 @@ reply-then capacity s line said r new free x e =
     let v : Verdict = verdict_on s.seen s.player line in
     go v (plainly capacity s v r new x)
   where
-    -- what is said for this reply
+    -- the text of this reply
     said-by : (other : Reply) → r ≡ other → reply_line other ≡ Some said
     said-by other is = ap reply_line (sym is) ∙ e
 
@@ -170,7 +170,7 @@ reply-then capacity s line said r new free x e =
     )
     go (verdict.Ask q) (inr h) = absurd (no-line said (said-by (Question (length s.seen)) h.0))
 
--- it is told nothing
+-- it gets no notices
 told-then : (capacity : ℕ) (s : DeskState) (v : Verdict) → (desk_then capacity s v).told ≡ s.told
 told-then capacity s (verdict.Change e) = go (nat_lt (length s.seen) capacity)
   where
@@ -181,7 +181,7 @@ told-then capacity s (verdict.Become p) = refl
 told-then capacity s (verdict.Refused f) = refl
 told-then capacity s (verdict.Ask q) = refl
 
--- ---- a desk that nobody shares is told nothing
+-- ---- a single-user desk has no notices
 nothing : (xs ys : List (List ℕ)) → xs ++ ys ≡ [] → (xs ≡ []) × (ys ≡ [])
 nothing [] ys e = (refl, e)
 nothing (x ∷ xs) ys e = absurd (cc)
@@ -204,7 +204,7 @@ unshared shared = shared.3 shared.2
 
 -- ---- turns
 
--- what is sent in a turn and whether it is the last, with the desk that it leaves
+-- the output of a turn, whether it is the last one, and the desk afterwards
 record Comes (lines : List (List ℕ)) (case : Case) (new : DeskState) (words : List ℕ) (ends : Bool) (kept : DeskState)
     : Type 0 where
   notices : lines ≡ []
@@ -212,7 +212,8 @@ record Comes (lines : List (List ℕ)) (case : Case) (new : DeskState) (words : 
   last : is_last case ≡ ends
   desk : new ≡ kept
 
--- what comes of a line at such a desk: by whether it is blank, whether memory runs out for it, and whether it asks
+-- the effect of a line at a single-user desk: it depends on whether the line is blank, whether an allocation fails for
+-- it, and whether it asks
 abbrev IsLine : ℕ → DeskState → List ℕ → Bool → Bool → Bool → List (List ℕ) → Case → DeskState → Type 0
 IsLine capacity s line true failed question lines case new = Comes lines case new [] false s
 IsLine capacity s line false true question lines case new =
@@ -224,7 +225,7 @@ IsLine capacity s line false false false lines case new =
     let v = verdict_on s.seen s.player (parse_of line) in
     Comes lines case new (wire_text (text_then capacity s v)) false (desk_then capacity s v)
 
--- what comes of a unit, or of none
+-- the effect of a unit, or of none
 abbrev IsUnit : ℕ → DeskState → Option Given → Bool → List (List ℕ) → Case → DeskState → Type 0
 IsUnit capacity s None failed lines case new = Comes lines case new [] false s
 IsUnit capacity s (Some (Text line)) failed lines case new =
@@ -298,7 +299,7 @@ does-come capacity s (Acts line reply) lines new none (heard, other, acts) =
     (subst (λ (b : Bool). IsLine capacity s line false false b lines (Acts line reply) new) (sym other)
     (acted-comes capacity s line reply lines new none acts))
 
--- two turns send one text, and leave one desk
+-- two turns have equal output, and leave equal desks
 record AreOne (xs ys : List (List ℕ)) (t u : Case) (a b : DeskState) : Type 0 where
   notices : xs ≡ ys
   text : answer_to t ≡ answer_to u
@@ -342,7 +343,7 @@ unit-one capacity s (Some (Sent bytes)) failed xs ys t u a b none x y =
 unit-one capacity s (Some (Text line)) failed xs ys t u a b none x y =
     line-one capacity s line (is_blank line) failed (is_question (parse_of line)) xs ys t u a b none x y
 
--- turns of one unit, for which memory runs out or not, send one text, and leave one desk
+-- turns of one unit, with or without a failed allocation in both, have equal output and leave equal desks
 turn-one : (capacity : ℕ) (old a b : DeskState) (t u : Turn) → old.told ≡ [] → unit_in t ≡ unit_in u
     → fails t.case ≡ fails u.case → Does TakesNone capacity old t.case t.notices a
     → Does TakesNone capacity old u.case u.notices b → AreOne t.notices u.notices t.case u.case a b

@@ -1,4 +1,4 @@
--- Turns one after the other.
+-- Successive turns.
 use Rattle.std.proofs.Common.{◌≡◌, ℕ, Bool, true, false, List, [], ◌∷◌, ◌++◌, Option, Some, map, refl, sym, ap, subst}
 use Rattle.std.proofs.Common.{◌∙◌, append_assoc}
 use Rattle.std.specs.Prelude.{◌||◌}
@@ -45,7 +45,7 @@ abbrev pub retold : {T : TakingIn} {n : ℕ} {a b : DeskState} {us vs : List Giv
     → Play T n a vs b
 retold e p = record { turns = p.turns; left = p.left; units_are = ap (map Some) e ∙ p.units_are; plays = p.plays }
 
--- turns, and after them a play
+-- turns, followed by a play
 pub joined-units : (xs ys : List Turn) (us vs left : List Given) → map Some us ≡ map unit_in xs
     → map Some vs ≡ map unit_in ys ++ map Some left
     → map Some (us ++ vs) ≡ map unit_in (xs ++ ys) ++ map Some left

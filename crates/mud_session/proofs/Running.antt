@@ -1,4 +1,4 @@
--- The turns of a script are a run of the hall of one caller.
+-- The turns of a script are a run of the single-user hall.
 use Rattle.std.proofs.Common.{◌≡◌, ℕ, List, [], ◌∷◌, ◌++◌, Some, refl, sym, ap, ◌∙◌, subst, map, ◌⊎◌, inl, inr}
 use Rattle.std.proofs.lemmas.List.{append-nil}
 use Rattle.mud_words.specs.Parse.{parse_of}
@@ -16,9 +16,9 @@ use Rattle.mud_session.specs.Session.{TakesNone, Turn, Plays}
 use Rattle.mud_session.specs.Laws.{all_calls, AreScript}
 use Rattle.mud_session.proofs.Calling.{HoldsOfCalls, HoldsOfAll, all_turned}
 
--- ---- one call of a desk that nobody shares
+-- ---- one call of a single-user desk
 
--- the call, and the entries that the desk has seen grow as a history does
+-- the call, and the growth of the desk's entries as a history
 record IsOne (capacity : ℕ) (old : DeskState) (call : Call) (new : DeskState) : Type 0 where
   performs : Performs capacity old call new
   grows : Grows call old.seen new new.seen
@@ -90,7 +90,7 @@ record Stands (hall : Hall) (d : DeskState) : Type 0 where
   at : hall.desks 1 ≡ Some d
   whole : hall.history ≡ d.seen
 
--- from a hall to one where desk 1 is so
+-- from a hall to one in which desk 1 has this state
 record Runs (capacity : ℕ) (hall : Hall) (calls : List Call) (new : DeskState) : Type 0 where
   later : Hall
   run : IsRun capacity [] hall (map (At 1) calls) later

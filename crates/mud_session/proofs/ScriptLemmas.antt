@@ -1,4 +1,4 @@
--- What a script has written.
+-- The output of a script.
 use Rattle.std.proofs.Common.{◌≡◌, ℕ, ◌+◌, ◌<◌, ◌≤◌, Bool, true, false, List, [], ◌∷◌, ◌++◌, length, map, take, refl}
 use Rattle.std.proofs.Common.{sym, ap, subst, ◌∙◌, append-nil, arith, inl, inr, length-append}
 use Rattle.std.specs.Prelude.{Option, Some, if◌then◌else◌, ◌==◌, ◌&&◌, nat_lt}
@@ -27,7 +27,7 @@ pub goes_on_here : (at_end : Bool) (n : ℕ) (buffer : List ℕ)
     → at_end ≡ (n == 0 && nat_lt 0 (length buffer)) → 0 < n → at_end ≡ false
 goes_on_here at_end n buffer is some = is ∙ grind (arith, nat_tests)
 
--- where the script stands after some reads
+-- the state of the script after some reads
 pub record Reached (takes_in : TakingIn) (capacity : ℕ) (start : DeskState) (reader read : Reader)
     (held now : Option (List ℕ)) (state : SessionState) (door : DoorState) : Type 0 where
   pub bytes : List ℕ
@@ -93,7 +93,7 @@ played_out {new = new} {desk = desk} bytes consumed ended end play = record {
   play = retold (ap units (heard_bytes bytes new.at_end true ended)) play;
 }
 
--- what was played so far
+-- the turns played so far
 abbrev so_far_play : {takes_in : TakingIn} {capacity : ℕ} {start : DeskState}
     {reader read : Reader} {held now : Option (List ℕ)}
     {state : SessionState} {door : DoorState}
@@ -187,7 +187,7 @@ whole_at_end {new = new} so_far consumed ended end serves = record {
   ];
 }
 
--- ---- fronts
+-- ---- prefixes
 more_front : (held now later : Option (List ℕ)) (xs ys : List Turn) (n : ℕ) → Appends held now (text_of xs)
     → Appends now later (take n (text_of ys))
     → Appends held later (take (length (text_of xs) + n) (text_of (xs ++ ys)))
@@ -196,7 +196,7 @@ more_front held now later xs ys n p q =
     (sym (ap (take (length (text_of xs) + n)) (text_of-append xs ys) ∙ take-append-add (text_of xs) (text_of ys) n))
     (Appends-trans held now later (text_of xs) (take n (text_of ys)) p q)
 
--- where no door could be opened
+-- if the door could not be opened
 pub front_at_start : (takes_in : TakingIn) (capacity : ℕ) (start : DeskState) (reader : Reader) (writer : Writer)
     → reader ≡ new_reader reader.left → IsFront takes_in capacity start reader reader writer writer
 front_at_start takes_in capacity start reader writer fresh = record {
@@ -206,7 +206,7 @@ front_at_start takes_in capacity start reader writer fresh = record {
   writes = Appends-nil writer.holds;
 }
 
--- where a read fails, or too many came
+-- if a read fails, or there were too many reads
 pub front_so_far : {takes_in : TakingIn} {capacity : ℕ} {start : DeskState}
     {reader read next : Reader} {writer written : Writer}
     {state : SessionState} {door : DoorState}
@@ -218,7 +218,7 @@ front_so_far {writer = writer} {written = written} so_far kept no_end = record {
   writes = subst (Appends writer.holds written.holds) (sym (take-length (text_of so_far.turns))) so_far.written;
 }
 
--- where the session fails, or a write
+-- if the session or a write fails
 pub front_served : {takes_in : TakingIn} {capacity : ℕ} {start : DeskState}
     {reader read next : Reader} {writer written : Writer}
     {now : Option (List ℕ)} {state : SessionState} {door : DoorState} {more : List ℕ}
@@ -233,7 +233,7 @@ front_served {more = more} so_far consumed no_end part = record {
   writes = more_front _ _ _ so_far.turns part.play.turns part.count so_far.written part.written;
 }
 
--- the same at the end of the input, in the last line
+-- likewise at the end of the input, in the last line
 pub front_at_end : {takes_in : TakingIn} {capacity : ℕ} {start : DeskState}
     {reader read next : Reader} {writer written : Writer}
     {now : Option (List ℕ)} {state : SessionState} {door : DoorState}
@@ -249,7 +249,7 @@ front_at_end so_far consumed ended end part = record {
   writes = more_front _ _ _ so_far.turns part.play.turns part.count so_far.written part.written;
 }
 
--- it goes on
+-- the script continues
 pub is_open : {takes_in : TakingIn} {capacity : ℕ} {start : DeskState}
     {reader read : Reader} {writer written : Writer}
     {state : SessionState} {door : DoorState}

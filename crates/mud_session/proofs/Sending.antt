@@ -1,4 +1,4 @@
--- What is to be sent.
+-- The output of a session.
 use Rattle.std.proofs.Common.{◌≡◌, ℕ, List, [], ◌++◌, sym, ap, append_assoc}
 use Rattle.std.proofs.lemmas.List.{append-nil}
 use Rattle.mud_session.specs.State.{SessionState}

@@ -1,4 +1,4 @@
--- What is written for some bytes, and for a front of them.
+-- The output for some bytes, and a prefix of it.
 use Rattle.std.proofs.Common.{◌≡◌, ℕ, List, [], ◌++◌, take, refl, sym, ap, subst, ◌∙◌}
 use Rattle.std.specs.Prelude.{Option}
 use Rattle.std.specs.Io.KnownBytes.{Appends}
@@ -21,7 +21,7 @@ none_served takes_in earlier bytes door held = record {
   written = Appends-nil held;
 }
 
--- all that the session sends is written
+-- the whole output of the session is written
 pub all_served : (takes_in : TakingIn) (earlier bytes : List ℕ) (old mid new : SessionState)
     (old_door new_door : DoorState) (held now_held : Option (List ℕ)) (text : List ℕ) → old.out ≡ []
     → Feeds takes_in earlier bytes old mid old_door new_door → text ≡ mid.out
@@ -38,7 +38,7 @@ all_served takes_in earlier bytes old mid new old_door new_door held now_held te
       capacity = capacity;
     })
 
--- a front of it is
+-- a prefix of it is written
 pub part_served : (takes_in : TakingIn) (earlier bytes : List ℕ) (old mid : SessionState)
     (old_door new_door : DoorState) (held now_held : Option (List ℕ)) (text : List ℕ) (n : ℕ) → old.out ≡ []
     → Feeds takes_in earlier bytes old mid old_door new_door → text ≡ mid.out → Appends held now_held (take n text)

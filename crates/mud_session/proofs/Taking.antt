@@ -1,4 +1,4 @@
--- What a session does with the units of a piece.
+-- The effect of the units of an input on a session.
 use Rattle.std.proofs.Common.{◌≡◌, ℕ, ◌+◌, ◌<◌, Bool, true, false, List, [], ◌∷◌, ◌++◌, Option, Some, map, take, get_or}
 use Rattle.std.proofs.Common.{length, refl, sym, ap, subst, ◌∙◌, append_assoc, inl, inr, Global}
 use Rattle.std.specs.Prelude.{◌||◌}
@@ -14,7 +14,7 @@ use Rattle.mud_session.specs.Feeds.{Feeds}
 use Rattle.mud_session.specs.inner.TurnTexts.{HasTurn}
 use Rattle.mud_session.proofs.Playing.{unit_in, text_in, joined, is_over-append, text_of-append}
 
--- each of these units had its turn, up to the last, and what is sent for them is to be taken out
+-- each of these units had its turn, up to the last one, and their output can be taken out
 pub record SoFar (T : TakingIn) (units : List Given) (old new : SessionState) (old_door new_door : DoorState)
     : Type 0 where
   pub play : Play T old_door.capacity old_door.desk units new_door.desk
@@ -99,7 +99,7 @@ shown_more units i unit lt here =
     ap all_shown (take_more units i unit lt) ∙ map_push unit_shown (take i units) (get_or units i unit)
     ∙ ap (λ u. all_shown (take i units) ++ unit_shown u ∷ []) (sym here)
 
--- one unit more
+-- one more unit
 pub SoFar-more : (T : TakingIn) (units : List (CodeUnit Global)) (i : ℕ) (unit : CodeUnit Global) (a b c : SessionState)
     (da db dc : DoorState)
     → i < length units → unit ≡ get_or units i unit → SoFar T (all_shown (take i units)) a b da db

@@ -1,10 +1,10 @@
--- What a session said from its beginning on.
+-- The output of a session from its beginning on.
 use Rattle.std.proofs.Common.{◌≡◌, ℕ, false, List, [], ◌∷◌, ◌++◌, Option, Some, map}
 use Rattle.std.proofs.Common.{refl, sym, ◌∙◌, ap, subst, append_assoc, append-nil}
 use Rattle.std.specs.List.{flat_map}
 use Rattle.std.specs.Option.{option_to_list}
 use Rattle.std.proofs.lemmas.Grind.{flat_map-append}
-use Rattle.mud_nvt.specs.Units.{Given, units}
+use Rattle.mud_nvt.specs.Units.{Given}
 use Rattle.mud_nvt.specs.History.{StandsAfter}
 use Rattle.mud_hall.specs.Desk.{TakesIn, as_guest}
 use Rattle.mud_session.specs.State.{SessionState, DoorState}
@@ -27,7 +27,7 @@ same-units (u ∷ us) (v ∷ vs) e =
     let tail : map Some us ≡ map Some vs = cc in
     ap (λ (x : Given). x ∷ us) (some-inj u v head) ∙ ap (λ (xs : List Given). v ∷ xs) (same-units us vs tail)
 
--- units that had their turns, and those that are left
+-- units that had their turns, and those that remain
 units-are : (us : List Given) (turns : List Turn) (left : List Given)
     → map Some us ≡ map unit_in turns ++ map Some left → us ≡ units_of turns ++ left
 units-are us [] left e = same-units us left e
@@ -41,7 +41,7 @@ units-are (u ∷ us) (turn ∷ turns) left e =
 units-append : (xs ys : List Turn) → units_of (xs ++ ys) ≡ units_of xs ++ units_of ys
 units-append xs ys = flat_map-append (λ (turn : Turn). option_to_list (unit_of turn.case)) xs ys
 
--- ---- one piece of what comes
+-- ---- one piece of input
 
 fed : (capacity : ℕ) (greeting typed sent bytes : List ℕ) (old new : SessionState) (was is : DoorState)
     → was.capacity ≡ capacity → IsTalk capacity greeting typed sent old was.desk

@@ -1,4 +1,4 @@
--- What others did is told once.
+-- Each notice comes once.
 use Rattle.std.proofs.Common.{◌≡◌, ℕ, List, [], ◌∷◌, ◌++◌, refl, sym, ap, ◌∙◌, append_assoc, inl, inr}
 use Rattle.std.specs.Prelude.{◌⊎◌}
 use Rattle.std.proofs.lemmas.List.{append-nil}
@@ -15,7 +15,7 @@ use Rattle.mud_hall.proofs.Coming.{Plain, plainly}
 use Rattle.mud_session.specs.Session.{Case, Rests, Looks, Fails, Asks, Acts, Sees, Does}
 use Rattle.mud_session.specs.Laws.{IsToldOnce}
 
--- the desk made an entry itself, or none, and is told nothing of it
+-- the desk made an entry itself, or none, and gets no notice of it
 record Adds (old new : DeskState) : Type 0 where
   own : List Entry
   seen : new.seen ≡ old.seen ++ own
@@ -60,7 +60,7 @@ replies-add capacity old line reply new h =
     go (verdict.Refused f) (inr c) = adds-same old new c.1
     go (verdict.Ask q) (inr c) = adds-same old new c.1
 
--- entries are taken in, perhaps one is made, and some of what the desk was told is sent
+-- entries are seen, an entry may be made, and some of the notices are sent
 told : (old ready acted new : DeskState) (lines : List (List ℕ)) → TakesIn old ready → Adds ready acted
     → HandsOut acted lines new → IsToldOnce old lines new
 told old ready acted new lines takes adds tells = record {

@@ -1,4 +1,4 @@
--- A text that is widened where it stands, from its end on.
+-- A text expanded in place, from its end to its beginning.
 use Rattle.std.proofs.Common.{◌≡◌, ◌≢◌, ℕ, ◌+◌, ◌-◌, ◌<◌, ◌≤◌, Bool, true, false, List, [], ◌∷◌, ◌++◌}
 use Rattle.std.proofs.Common.{length, take, drop, get_or, set, refl, sym, ap, ◌∙◌, arith}
 use Rattle.std.proofs.Common.{append_assoc, length-append, length-set, length-drop}
@@ -16,7 +16,7 @@ use Rattle.mud_key.specs.Lines.{HasNoLineFeed}
 use Rattle.mud_session.specs.Session.{wire_text, with_version}
 use Rattle.mud_session.specs.inner.Wire.{on_wire}
 
--- the text on the wire
+-- the encoded text
 abbrev wide : List ℕ → List ℕ
 wide xs = flat_map on_wire xs
 
@@ -33,19 +33,19 @@ one-wide b = go (b == LF) refl
     go true e = rw e (omega arith)
     go false e = rw e (omega arith)
 
--- nothing gets shorter
+-- encoding never makes a text shorter
 pub wide-longer : (xs : List ℕ) → length xs ≤ length (wide xs)
 wide-longer [] = omega arith
 wide-longer (x ∷ xs) = omega (arith, one-wide x, wide-longer xs, length-append (on_wire x) (wide xs))
 
--- a line stays as it is
+-- a line is unchanged
 pub line-wide : (line : List ℕ) → HasNoLineFeed line → wide line ≡ line
 line-wide [] all = refl
 line-wide (b ∷ line) all =
     ap (λ (x : List ℕ). x ++ wide line) (other-wide b (All-head (λ b. b ≢ LF) b line all))
     ∙ ap (λ (x : List ℕ). b ∷ x) (line-wide line (All-tail (λ b. b ≢ LF) b line all))
 
--- digits stay as they are
+-- digits are unchanged
 pub digits_wide : (n : ℕ) → n < 2 ^ 64 → wide (decimal n) ≡ decimal n
 digits_wide =
     decimal_by_steps (λ m ds. wide ds ≡ ds) (λ m few. one (48 + m) (omega arith))
@@ -56,25 +56,24 @@ digits_wide =
     one : (b : ℕ) → 48 ≤ b → wide (b ∷ []) ≡ b ∷ []
     one b high = ap (λ (x : List ℕ). x ++ []) (other-wide b (λ same. absurd (omega (arith, same, high))))
 
--- a version in front stays as it is
+-- a version before a text is unchanged
 pub numbered_wide : (v : ℕ) (text : List ℕ) → v < 2 ^ 64
-    → with_version v [] ++ wire_text text ≡ wire_text (with_version v text)
+    → (codes "[" ++ decimal v ++ codes "] ") ++ wire_text text ≡ wire_text (with_version v text)
 numbered_wide v text fits =
     let front : List ℕ = codes "[" ++ decimal v ++ codes "] " in
     let end : List ℕ = CR ∷ LF ∷ [] in
     let stays : wide front ≡ front =
     flat_map-append on_wire (codes "[" ++ decimal v) (codes "] ")
     ∙ ap (λ (x : List ℕ). codes "[" ++ x ++ codes "] ") (digits_wide v fits) in
-    ap (λ (x : List ℕ). x ++ wire_text text) (append-nil front)
-    ∙ sym (append_assoc front (wide text) end) ∙ ap (λ (x : List ℕ). (x ++ wide text) ++ end) (sym stays)
+    sym (append_assoc front (wide text) end) ∙ ap (λ (x : List ℕ). (x ++ wide text) ++ end) (sym stays)
     ∙ ap (λ (x : List ℕ). x ++ end) (sym (flat_map-append on_wire front text))
 
--- a line that is ended, and what stands after it
+-- a line with its end, and the text after it
 pub cut-wide : (line rest : List ℕ) → HasNoLineFeed line → wide (line ++ LF ∷ rest) ≡ line ++ (CR ∷ LF ∷ wide rest)
 cut-wide line rest all =
     flat_map-append on_wire line (LF ∷ rest) ∙ ap (λ (x : List ℕ). x ++ (CR ∷ LF ∷ wide rest)) (line-wide line all)
 
--- a line more was sent, with its end, and what stood after it is left
+-- one more line was sent, with its end, and the text after it remains
 pub line-more : (bytes line ended out : List ℕ) → HasNoLineFeed line → bytes ≡ line ++ LF ∷ drop 1 ended
     → ((out ++ line) ++ CR ∷ LF ∷ []) ++ wide (take (length ended - 1) (drop 1 ended)) ≡ out ++ wide bytes
 line-more bytes line ended out all is =
@@ -92,14 +91,14 @@ wide-next xs k b lt at =
     ∙ ap (λ (x : ℕ). wide (take k xs) ++ (on_wire x ++ [])) (sym at)
     ∙ ap (λ (x : List ℕ). wide (take k xs) ++ x) (append-nil (on_wire b))
 
--- the first k bytes are as they were, and what the bytes after them became stands from the place `to` on
+-- the first k bytes are unchanged, and the encoded bytes after them begin at the place `to`
 pub record IsWidened (front : ℕ) (whole : List ℕ) (k to : ℕ) (out : List ℕ) : Type 0 where
   pub within : k ≤ length out
   pub place : to ≡ front + length (wide (take k out))
   pub fits : to ≤ length out
   pub is : wide (take k out) ++ drop to out ≡ whole
 
--- one byte more, which goes to the place before
+-- one more byte, which goes to the place before
 put-back : (out : List ℕ) (k to b : ℕ) → k ≤ to → to < length out
     → record { same : take k (set out to b) ≡ take k out; rest : drop to (set out to b) ≡ b ∷ drop (to + 1) out }
 put-back out k to b le lt = record { same = take-set-le k out to b le; rest = drop-set out to b lt }
@@ -156,7 +155,7 @@ widened-lf front whole k to b out w at lf =
           ∙ ap (λ (xs : List ℕ). xs ++ drop to out) (sym more) ∙ w.is;
     }
 
--- a text that was filled up begins with what it was
+-- a text with a filling begins with the text
 pub begins_so : (xs fill now : List ℕ) (n end : ℕ) → now ≡ take n xs ++ fill → end ≡ length xs → length xs ≤ n
     → take end now ≡ xs
 begins_so xs fill now n end is same le =

@@ -1,4 +1,4 @@
--- What a session does with the bytes that it is given, and when it is nudged.
+-- The effect of input and of a nudge on a session.
 use Rattle.std.specs.Prelude.{◌≡◌, ℕ, false, List, [], ◌++◌}
 use Rattle.std.specs.List.{flat_map}
 use Rattle.mud_nvt.specs.Units.{Given, units}
@@ -6,7 +6,7 @@ use Rattle.mud_nvt.specs.History.{StandsAfter}
 use Rattle.mud_session.specs.State.{SessionState, DoorState}
 use Rattle.mud_session.specs.Session.{TakingIn, Looks, Does, Play, is_over, wire_text, text_of}
 
--- after the earlier bytes it takes these: the units that they add have their turns, up to the last reply
+-- after the earlier bytes the session consumes these: the units that they add have their turns, up to the last reply
 pub record Feeds (takes_in : TakingIn) (earlier bytes : List ℕ) (old new : SessionState)
     (old_door new_door : DoorState) : Type 0 where
   pub stands : StandsAfter new.terminal (earlier ++ bytes)
@@ -18,7 +18,7 @@ pub record Feeds (takes_in : TakingIn) (earlier bytes : List ℕ) (old new : Ses
   pub all : new.has_ended ≡ false → play.left ≡ []
   pub out : new.out ≡ old.out ++ text_of play.turns
 
--- a turn without a unit, in which it looks for what others did: the notices are to be taken out
+-- a turn without a unit, in which the session looks for changes of others: the notices are added to the output
 pub record Nudges (takes_in : TakingIn) (old new : SessionState) (old_door new_door : DoorState) : Type 0 where
   pub lines : List (List ℕ)
   pub looks : Does takes_in old_door.capacity old_door.desk Looks lines new_door.desk

@@ -1,4 +1,4 @@
--- Laws of the definitions: what they say together.
+-- Laws of the definitions.
 use mathlib.Core.List.{IsPrefix}
 use Rattle.std.specs.Prelude.{◌≡◌, ◌⊎◌, ℕ, Bool, true, false, Some, List, [], ◌∷◌, ◌++◌, map, All, length}
 use Rattle.std.specs.List.{flat_map}
@@ -14,12 +14,12 @@ use Rattle.mud_session.specs.Feeds.{Feeds, Nudges}
 use Rattle.mud_session.specs.Talks.{IsTalk}
 use Rattle.mud_session.specs.Notices.{NamesUpTo, IsNotice}
 
--- memory ran out for the line
+-- an allocation failed for the line
 abbrev pub fails : Case → Bool
 fails (Fails line) = true
 fails other = false
 
--- two plays of the same bytes at a desk that nobody shares, in which memory ran out for the same lines, send one text
+-- two plays of the same bytes at a single-user desk, with failed allocations for the same lines, have equal output
 abbrev pub ScriptTextIsOne : Type 0
 ScriptTextIsOne =
     (capacity : ℕ) (bytes : List ℕ) (one other : DeskState)
@@ -28,7 +28,8 @@ ScriptTextIsOne =
     → map (λ turn. fails turn.case) p.turns ≡ map (λ turn. fails turn.case) q.turns
     → text_of p.turns ≡ text_of q.turns
 
--- a desk saw entries of others, and made one or none; what was sent and is left is what it was told and their notices
+-- a desk saw entries of others, and made at most one; the notices sent and remaining are its notices before, and those
+-- of the entries seen
 pub record IsToldOnce (old : DeskState) (lines : List (List ℕ)) (new : DeskState) : Type 0 where
   pub others : List Entry
   pub own : List Entry
@@ -38,7 +39,7 @@ pub record IsToldOnce (old : DeskState) (lines : List (List ℕ)) (new : DeskSta
 
 -- ---- turns are calls
 
--- what a turn calls at its desk: the notices are what it hands out
+-- the calls of a turn at its desk: it hands out the notices
 abbrev pub calls_of : List (List ℕ) → Case → List Call
 calls_of lines (Rests unit) = []
 calls_of lines Looks = See ∷ Told lines ∷ []
@@ -50,16 +51,16 @@ calls_of lines (Acts line reply) = Act line reply ∷ Told lines ∷ []
 abbrev pub all_calls : List Turn → List Call
 all_calls turns = flat_map (λ turn. calls_of turn.notices turn.case) turns
 
--- the turns of a script are calls at desk 1 of the hall of one caller, one after the other: a run of that hall
+-- the turns of a script are successive calls at desk 1 of the single-user hall: a run of that hall
 pub record AreScript (capacity : ℕ) (turns : List Turn) (new : DeskState) : Type 0 where
   pub hall : Hall
   pub run : IsRun capacity [] opened_alone (map (At 1) (all_calls turns)) hall
   pub desk : hall.desks 1 ≡ Some new
 
--- ---- what is said from the greeting on
+-- ---- the output from the greeting on
 
--- a talk begins with its greeting, goes on with what comes and what others did, and loses nothing when it is sent; so
--- what was sent is a front of the greeting and of the text of turns, and these are calls of its desk
+-- a talk begins with its greeting, continues with input and looks, and loses nothing when output is taken. So the
+-- output is a prefix of the greeting and the text of turns, and these turns are calls of its desk
 pub record TalksGoOn (capacity : ℕ) (greeting : List ℕ) : Type 0 where
   pub begins : (session : SessionState) (desk : DeskState) → StandsAfter session.terminal []
       → session.has_ended ≡ false → session.out ≡ greeting → IsTalk capacity greeting [] [] session (as_guest desk)
@@ -79,7 +80,8 @@ pub record TalksGoOn (capacity : ℕ) (greeting : List ℕ) : Type 0 where
 
 -- ---- versions
 
--- a session, to which these bytes came, names no version beyond what its desk has seen, in what is to be sent or told
+-- a session that received these bytes names no version beyond the entries that its desk has seen, in its output or its
+-- notices
 pub record NamesSeen (session : SessionState) (desk : DeskState) : Type 0 where
   pub earlier : List ℕ
   pub stands : StandsAfter session.terminal earlier

@@ -1,4 +1,4 @@
--- The versions that a session names in what it sends.
+-- The versions that the output of a session names.
 use Rattle.std.specs.Prelude.{◌≡◌, ◌≤◌, ◌⊎◌, ℕ, List, [], ◌∷◌, codes, Some, All, Contains}
 use Rattle.std.specs.List.{flat_map}
 use Rattle.mud_words.specs.Line.{Line}
@@ -19,21 +19,21 @@ plain_lines =
     codes "Welcome. Type: connect NAME" ∷ codes "(out of memory)" ∷ codes "(history full)" ∷ codes "(not stored)"
     ∷ codes "(line too long)" ∷ codes "[Yes]" ∷ []
 
--- what is said of version v: what a line that acts is replied, or the answer to a line by v entries
+-- a text about version v: the reply to a line that acts, or the answer to a line by v entries
 abbrev pub IsSaidOf : ℕ → List ℕ → Type 0
 IsSaidOf v text =
     ((w : World) × (e : Change) × (text ≡ reply_text w e)) ⊎ ((p : ℕ) × (text ≡ welcome_text p))
     ⊎ ((f : Refusal) × (text ≡ refusal_text f))
     ⊎ ((d : DeskState) × (line : Line) × (a : Answered) × Answers d line a × (a.version ≡ v) × (a.text ≡ text))
 
--- a notice of a change that somebody heard, which names no version above `most`
+-- a notice of a change, which names no version above `most`
 abbrev pub IsNotice : ℕ → List ℕ → Type 0
 IsNotice most text =
     (v : ℕ) × (w : World) × (e : Change) × (p : ℕ) × (line : List ℕ)
     × (v ≤ most) × (heard_line w e p ≡ Some line) × (text ≡ notice_text v line)
 
--- a piece of what is sent that names no version above `most`: a reply or an answer with its version in front, a notice,
--- a line that names no version, or an answer to a request
+-- a piece of output that names no version above `most`: a reply or an answer after its version, a notice, a line that
+-- names no version, or an answer to a request
 abbrev pub IsPiece : ℕ → List ℕ → Type 0
 IsPiece most bytes =
     ((v : ℕ) × (text : List ℕ) × (v ≤ most) × IsSaidOf v text × (bytes ≡ wire_text (with_version v text)))
@@ -41,7 +41,7 @@ IsPiece most bytes =
     ⊎ ((line : List ℕ) × Contains plain_lines line × (bytes ≡ wire_text line))
     ⊎ ((verb : ℕ) × (option : ℕ) × (bytes ≡ IAC ∷ verb ∷ option ∷ []))
 
--- the text is made of such pieces
+-- the text consists of such pieces
 pub record NamesUpTo (most : ℕ) (text : List ℕ) : Type 0 where
   pub pieces : List (List ℕ)
   pub each : All (IsPiece most) pieces

@@ -1,4 +1,4 @@
--- What a script reads, plays and writes, at any door.
+-- The input, the turns and the output of a script, at any door.
 use Rattle.std.specs.Prelude.{◌≡◌, ◌≤◌, ℕ, true, false, if◌then◌else◌, ◌⊎◌, List, [], ◌∷◌, ◌++◌, length, take}
 use Rattle.std.specs.Io.KnownBytes.{Appends, Consumes, IsAtEnd}
 use Rattle.mud_nvt.specs.declared.codes.TheConstants.{LF}
@@ -7,7 +7,7 @@ use Rattle.mud_io.specs.Streams.{Reader, Writer}
 use Rattle.mud_hall.specs.Desk.{DeskState}
 use Rattle.mud_session.specs.Session.{TakingIn, Play, is_over, text_of}
 
--- what a session that stood at the start played of what was read, and of a line feed where the end was seen
+-- the turns of a session that began at the start, for the bytes read and, if the end was seen, one more line feed
 pub record Script (takes_in : TakingIn) (capacity : ℕ) (start : DeskState) (old new : Reader) : Type 0 where
   pub bytes : List ℕ
   pub read : Consumes old.left new.left bytes
@@ -15,21 +15,22 @@ pub record Script (takes_in : TakingIn) (capacity : ℕ) (start : DeskState) (ol
   pub desk : DeskState
   pub play : Play takes_in capacity start (units (if new.at_end then bytes ++ LF ∷ [] else bytes)) desk
 
--- all its text was written; the end was seen and each unit had its turn, or `quit` was answered
+-- the whole output was written. The end was seen and each unit had its turn, or `quit` was answered
 pub record IsWhole (takes_in : TakingIn) (capacity : ℕ) (start : DeskState) (reader read : Reader)
     (writer written : Writer) : Type 0 where
   pub script : Script takes_in capacity start reader read
   pub writes : Appends writer.holds written.holds (text_of script.play.turns)
   pub done : ((read.at_end ≡ true) × (script.play.left ≡ [])) ⊎ (is_over script.play.turns ≡ true)
 
--- a front of its text was written
+-- a prefix of the output was written
 pub record IsFront (takes_in : TakingIn) (capacity : ℕ) (start : DeskState) (reader read : Reader)
     (writer written : Writer) : Type 0 where
   pub script : Script takes_in capacity start reader read
   pub count : ℕ
   pub writes : Appends writer.holds written.holds (take count (text_of script.play.turns))
 
--- all its text was written, each unit had its turn, no `quit` was answered, no end seen, and each read gave a byte
+-- the whole output was written, each unit had its turn, no `quit` was answered, no end was seen, and each read returned
+-- a byte
 pub record IsOpen (takes_in : TakingIn) (capacity : ℕ) (start : DeskState) (reader read : Reader)
     (writer written : Writer) : Type 0 where
   pub script : Script takes_in capacity start reader read

@@ -1,4 +1,4 @@
--- What a session at a desk of a hall said from its beginning on: what was sent, and what is to be sent.
+-- The output of a session at a desk of a hall from its beginning on: sent and still to be sent.
 use Rattle.std.specs.Prelude.{◌≡◌, ℕ, false, List, [], ◌++◌, codes}
 use Rattle.std.specs.List.{flat_map}
 use Rattle.std.specs.Option.{option_to_list}
@@ -8,16 +8,16 @@ use Rattle.mud_hall.specs.Desk.{DeskState, TakesIn, as_guest}
 use Rattle.mud_session.specs.State.{SessionState}
 use Rattle.mud_session.specs.Session.{Turn, Plays, unit_of, is_over, wire_text, text_of}
 
--- what a session says first that greets
+-- the greeting
 abbrev pub greeting : List ℕ
 greeting = wire_text (codes "Welcome. Type: connect NAME")
 
--- the units whose turns these are
+-- the units of these turns
 abbrev pub units_of : List Turn → List Given
 units_of turns = flat_map (λ turn. option_to_list (unit_of turn.case)) turns
 
--- a session in which these bytes were typed played these turns, from a guest's desk on: those of all units up to the
--- last reply. Its greeting and their text are what was sent and what is to be sent
+-- a session that received these bytes played these turns, beginning with a guest's desk: the turns of all units up to
+-- the last reply. Its greeting and the text of the turns are the output sent and still to be sent
 pub record IsTalk (capacity : ℕ) (greeting typed sent : List ℕ) (session : SessionState) (desk : DeskState)
     : Type 0 where
   pub first : DeskState

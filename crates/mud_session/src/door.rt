@@ -1,4 +1,4 @@
-//! Where the lines of a session are answered.
+//! The backend of a session.
 
 ghost use Rattle.std.specs.Prelude.{◌≡◌, ◌≢◌, ◌++◌, [], IfOk, IfErr, OnOk, map, string_bytes};
 ghost use Rattle.std.specs.Thread.{IsSync};
@@ -15,14 +15,14 @@ use mud_words::Parsed;
 use std::sync::Wait;
 use std::thread::Threads;
 
-/// Where the lines of a session are answered: a desk, of its own or of a hall. A contract sees the desk, how many
-/// entries the history can have, and what the desk is not told yet; and what the desk may take in of others' entries.
+/// The backend of a session: a single-user desk, or a desk of a hall. A contract sees the desk, the capacity of the
+/// history, the pending notices, and which entries of others the desk may see.
 pub trait Door {
     ghost state: { Self → DoorState };
 
     ghost takes_in: { TakingIn };
 
-    /// Takes entries in, and replies to a line that acts, by what it says.
+    /// Sees entries, and acts on a parsed line.
     fn act<X: Threads + Wait + Sync>(&mut self, rt: &X, line: &Parsed) -> Result<Reply, Fault>
         ensures capacity { (state self.new).capacity ≡ (state self.old).capacity }
         ensures replies { (ready : DeskState) × takes_in (state self.old).desk ready
@@ -30,14 +30,14 @@ pub trait Door {
         ensures stored { reply_shown result ≡ Failed Fault.Unpublished → IsShared takes_in }
         ensures told { reply_shown result ≢ Failed Fault.OutOfMemory → (state self.new).pending ≡ [] };
 
-    /// Takes entries in.
+    /// Sees entries.
     fn see(&mut self) -> Result<(), Fault>
         ensures capacity { (state self.new).capacity ≡ (state self.old).capacity }
         ensures takes { takes_in (state self.old).desk (state self.new).desk }
         ensures told { OnOk result ((state self.new).pending ≡ []) }
         ensures fault { IfErr result (λ f. f ≡ Fault.OutOfMemory) };
 
-    /// Answers a line that asks, by what it says and exactly what the desk has seen.
+    /// Answers a parsed line by exactly the entries that the desk has seen.
     fn ask<X: Threads + Wait + Sync>(&mut self, rt: &X, line: &Parsed) -> Result<Answer, Fault>
         requires { IsSync X.row }
         ensures capacity { (state self.new).capacity ≡ (state self.old).capacity }
@@ -46,7 +46,7 @@ pub trait Door {
         ensures answers { IfOk result (λ a. Answers (state self.old).desk (line_of line.now) (answer_shown a)) }
         ensures fault { IfErr result (λ f. f ≡ Fault.OutOfMemory) };
 
-    /// The lines that the desk was told, each once. It takes no memory.
+    /// Returns the notices of the desk, each once. It does not allocate.
     fn take_told(&mut self) -> Vec<String>
         ensures capacity { (state self.new).capacity ≡ (state self.old).capacity }
         ensures told { (state self.old).desk.told ≡ map string_bytes result.items ++ (state self.new).desk.told }

@@ -1,14 +1,14 @@
-//! Why a session took no bytes.
+//! The faults of a session.
 
 use thiserror::Error;
 
-/// Why a session took no bytes, or not all.
+/// The reason why a session did not consume all of its input.
 #[derive(Clone, Copy, PartialEq, Eq, Debug, Drop, Error)]
 pub enum SessionFault {
-    /// Memory ran out for what the session itself keeps or sends: it has ended.
+    /// An allocation failed for the state or the output of the session itself. The session has ended.
     #[error("out of memory")]
     OutOfMemory,
-    /// The session had ended.
+    /// The session had already ended.
     #[error("the session has ended")]
     Ended,
 }

@@ -1,4 +1,4 @@
-//! Laws of the definitions: each contract is a law, and its function does nothing.
+//! Laws of the definitions. Each contract is a law, and its function does nothing.
 
 ghost use Rattle.mud_session.specs.Laws.{ScriptTextIsOne, IsToldOnce, all_calls, AreScript, NamesSeen, TalksGoOn};
 ghost use Rattle.mud_session.specs.Session.{Does, Turn, Plays, TakesNone};
@@ -8,43 +8,44 @@ ghost use Rattle.std.specs.Prelude.{List, ℕ};
 ghost use Rattle.mud_session.specs.State.{DoorState, SessionState};
 ghost use Rattle.mud_session.specs.Feeds.{Nudges, Feeds};
 
-/// In each turn at a desk of a hall what the desk had been told, and the notices of the others' entries that it came
-/// to see, are what was sent and what is left to be told, each once and in order.
+/// In each turn at a desk of a hall, two lists are equal. One is the desk's notices before the turn, and those of the
+/// others' entries that it saw in the turn. The other is the notices sent, and those that remain. So each notice comes
+/// once and in order.
 pub fn notices()
     ensures { (capacity : ℕ) (old new : DeskState) (turn : Turn) → Does TakesIn capacity old turn.case turn.notices new
         → IsToldOnce old turn.notices new }
 {}
 
-/// What a session at a desk of a hall sends names no version above the number of entries that the desk has seen by
-/// then: not in front of a reply, an answer or a notice, and the answer to `@history` has as many entries as its
-/// number says.
+/// The output of a session at a desk of a hall names no version above the number of entries that the desk has seen by
+/// then. This holds for the numbers of replies, answers and notices, and the answer to `@history` has as many entries
+/// as its number says.
 pub fn nothing_beyond()
     ensures { (old new : SessionState) (was is : DoorState) (names : NamesSeen old was.desk)
         → ((bytes : List ℕ) → Feeds TakesIn names.earlier bytes old new was is → NamesSeen new is.desk)
         × (Nudges TakesIn old new was is → NamesSeen new is.desk) }
 {}
 
-/// What a script sends depends on its bytes, on how many changes its history takes, and on which of its
-/// lines memory ran out for, and on nothing else.
+/// The output of a script depends only on its bytes, on the capacity of its history, and on the lines for which an
+/// allocation failed.
 pub fn one_script_text()
     ensures { ScriptTextIsOne }
 {}
 
-/// The turns of a session at a desk of a hall are calls of that desk, of which the steps of the hall are made: so
-/// `mud_hall::laws::guide` speaks of all sessions. What a session sends is what its calls hand out and answer.
+/// The turns of a session at a desk of a hall are calls of that desk, and the steps of the hall consist of such calls.
+/// So `mud_hall::laws::guide` is about all sessions. The output of a session is the results of its calls.
 pub fn turns()
     ensures { (capacity : ℕ) (old new : DeskState) (turns : List Turn) → Plays TakesIn capacity old turns new
         → PerformsAll capacity old (all_calls turns) new }
 {}
 
-/// The turns of a script are a run of the hall of one caller: so `mud_hall::laws::guide` speaks of every script.
+/// The turns of a script are a run of the single-user hall. So `mud_hall::laws::guide` is about every script.
 pub fn runs()
     ensures { (capacity : ℕ) (turns : List Turn) (new : DeskState) → Plays TakesNone capacity lone_desk turns new
         → AreScript capacity turns new }
 {}
 
-/// What was sent of a session at a desk of a hall is a front of its greeting and of the text of the turns that it
-/// played from a guest's desk on, whatever comes, and whenever something is sent.
+/// The output of a session at a desk of a hall is a prefix of its greeting and the text of its turns, beginning with a
+/// guest's desk. This holds for any input, and whenever output is taken.
 pub fn talks()
     ensures { (capacity : ℕ) (greeting : List ℕ) → TalksGoOn capacity greeting }
 {}

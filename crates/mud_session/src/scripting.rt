@@ -1,10 +1,9 @@
-//! A session over a reader and a writer.
+//! Runs a session over a reader and a writer.
 
-ghost use Rattle.std.specs.Prelude.{◌≡◌, ℕ, ◌≤◌, ◌⊎◌, [], true, List, OnOk, OnErr, IfOk, IfErr};
+ghost use Rattle.std.specs.Prelude.{◌≡◌, ℕ, ◌≤◌, ◌⊎◌, [], true, List, OnOk, OnErr, IfErr};
 ghost use Rattle.mud_nvt.specs.History.{StandsAfter};
 ghost use Rattle.mud_io.specs.Streams.{new_writer, new_reader};
 ghost use Rattle.mud_world.specs.declared.limits.TheConstants.{MOST_ENTRIES};
-ghost use Rattle.mud_hall.specs.Alone.{alone};
 ghost use Rattle.mud_hall.specs.Steps.{lone_desk};
 ghost use Rattle.mud_session.specs.Session.{TakesNone};
 ghost use Rattle.mud_session.specs.Script.{IsWhole, IsFront, IsOpen};
@@ -14,13 +13,13 @@ use crate::door::Door;
 use crate::session::Session;
 use mud_hall::Solo;
 use mud_io::{MOST_READS, Sink, Source};
-use std::alloc::{AllocError, Global};
+use std::alloc::Global;
 use std::io::{Read, Write};
 use std::sync::Wait;
 use std::thread::Threads;
 use thiserror::Error;
 
-/// Why a script stopped before its end.
+/// The reason why a script stopped before its end.
 #[derive(Clone, Copy, Debug, PartialEq, Eq, Error)]
 pub enum ScriptFault {
     #[error("out of memory")]
@@ -35,10 +34,10 @@ pub enum ScriptFault {
 
 const BUFFER_LEN: usize = 4096;
 
-/// Answers the lines of a reader at a desk of its own, whose history holds at most `capacity` entries,
-/// 1 to 65,536, up to the reader's end or to an answered `quit`. After the reader's end comes one more
-/// line feed. After a fault what was written is a front of the text of what was read. The guide
-/// searches by `workers` threads, 0 to 8; what is written is the same.
+/// Runs a session of its own over a reader and a writer, until the reader's end or an answered `quit`. The history
+/// holds at most `capacity` entries, 1 to 65,536. The end of the reader counts as one more line feed. After a fault the
+/// output is a prefix of the text for the bytes read. The guide uses `workers` threads, 0 to 8; the output does not
+/// depend on it.
 pub fn script<X: Threads + Wait + Sync, R: Read, W: Write>(
     rt: &X,
     alloc: Global,
@@ -59,28 +58,17 @@ pub fn script<X: Threads + Wait + Sync, R: Read, W: Write>(
     ensures open { result ≡ Err ScriptFault.TooManyReads
         → IsOpen TakesNone capacity lone_desk source.old source.new sink.old sink.new }
 {
-    let mut solo = match own_desk(alloc, capacity, workers) {
-        Ok(solo) => solo,
-        Err(_) => return Err(ScriptFault::OutOfMemory),
+    let Ok(mut solo) = Solo::open(alloc, capacity) else {
+        return Err(ScriptFault::OutOfMemory);
     };
-    let mut session = match Session::new(alloc, false) {
-        Ok(session) => session,
-        Err(_) => return Err(ScriptFault::OutOfMemory),
+    solo.set_workers(workers);
+    let Ok(mut session) = Session::new(alloc, false) else {
+        return Err(ScriptFault::OutOfMemory);
     };
     converse(rt, &mut session, &mut solo, source, sink)
 }
 
-// A desk of its own, at which `workers` threads search.
-fn own_desk(alloc: Global, capacity: u32, workers: u32) -> Result<Solo, AllocError>
-    requires { capacity ≤ MOST_ENTRIES }
-    ensures { IfOk result (λ solo. solo ≡ alone capacity 1 []) }
-{
-    let mut solo = Solo::open(alloc, capacity)?;
-    solo.set_workers(workers);
-    Ok(solo)
-}
-
-// Answers the lines of a reader at a door.
+// Answers the lines of a reader through a door.
 fn converse<X: Threads + Wait + Sync, D: Door, R: Read, W: Write>(
     rt: &X,
     session: &mut Session,
@@ -120,7 +108,7 @@ fn converse<X: Threads + Wait + Sync, D: Door, R: Read, W: Write>(
     Err(ScriptFault::TooManyReads)
 }
 
-// Gives the bytes to the session, and writes what it sends.
+// Feeds the bytes to the session, and writes its output.
 fn serve<X: Threads + Wait + Sync, D: Door, W: Write>(
     rt: &X,
     session: &mut Session,

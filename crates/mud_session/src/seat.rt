@@ -1,4 +1,4 @@
-//! A desk of a hall as a door.
+//! A desk of a hall as the backend of a session.
 
 ghost use Rattle.std.specs.Prelude.{◌≡◌, ◌≤◌, length, is_some};
 ghost use Rattle.mud_hall.specs.Desk.{pending};
@@ -13,8 +13,7 @@ use std::marker::Model;
 use std::sync::Wait;
 use std::thread::Threads;
 
-/// A desk, with its hall. A contract sees how many entries the history can have, the desk, and what
-/// the desk is not told yet.
+/// A desk and its hall. A contract sees the capacity of the history, the desk, and its pending notices.
 #[derive(Drop)]
 pub struct Seat<'h, J: HallName> {
     hall: &'h Hall<J>,
@@ -42,7 +41,7 @@ impl<'h, J: HallName> Model for Seat<'h, J> {
 }
 
 impl<'h, J: HallName> Seat<'h, J> {
-    /// The desk at its hall. The guide searches by `workers` threads, 0 to 8; the answers are the same.
+    /// Connects the desk to its hall. The guide uses `workers` threads, 0 to 8; the answers do not depend on it.
     pub fn new(hall: &'h Hall<J>, desk: Desk<J>, workers: u32) -> Seat<'h, J>
         requires { workers ≤ MOST_WORKERS }
         ensures { result ≡ record { capacity = length J.cells; desk = desk.state; pending = pending desk } }
@@ -50,8 +49,8 @@ impl<'h, J: HallName> Seat<'h, J> {
         Seat::up_to(hall, desk, workers, u32::MAX)
     }
 
-    /// The desk at its hall, which sees no more than `most` entries: where it looks for what others did, or answers a
-    /// question, it takes in no entry after the `most`-th. A line that acts takes in all.
+    /// Connects the desk to its hall, but lets it see no entry after the `most`-th when it looks for changes or answers
+    /// a question. A line that acts sees all entries.
     pub fn up_to(hall: &'h Hall<J>, desk: Desk<J>, workers: u32, most: u32) -> Seat<'h, J>
         requires { workers ≤ MOST_WORKERS }
         ensures { result ≡ record { capacity = length J.cells; desk = desk.state; pending = pending desk } }
@@ -64,35 +63,35 @@ impl<'h, J: HallName> Seat<'h, J> {
         }
     }
 
-    /// The number of the desk in its hall.
+    /// Returns the number of the desk in its hall.
     pub fn number(&self) -> u32
         ensures { result ≡ self.now.desk.number }
     {
         self.desk.number()
     }
 
-    /// Whether the desk is a player's; else it is a guest's.
+    /// Returns whether the desk is a player's; otherwise it is a guest's.
     pub fn has_player(&self) -> bool
         ensures { result ≡ is_some self.now.desk.player }
     {
         self.desk.has_player()
     }
 
-    /// How many entries the desk has seen.
+    /// Returns the number of entries that the desk has seen.
     pub fn seen(&self) -> u32
         ensures { result ≡ length self.now.desk.seen }
     {
         self.desk.seen()
     }
 
-    /// How many changes were accepted at the desk.
+    /// Returns the number of changes that were accepted at the desk.
     pub fn accepted_count(&self) -> usize
         ensures { result ≡ length self.now.desk.calls }
     {
         self.desk.accepted_count()
     }
 
-    /// The desk as it is.
+    /// Returns the desk.
     pub fn into_desk(self) -> Desk<J>
         ensures state { result.state ≡ self.entry.desk }
         ensures told { pending result ≡ self.entry.pending }

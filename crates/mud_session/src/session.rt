@@ -1,4 +1,4 @@
-//! A session: bytes in, bytes out.
+//! Sessions: bytes in, bytes out.
 
 ghost use Rattle.std.specs.Prelude.{◌≡◌, ℕ, List, [], false, true, if◌then◌else◌, Err, codes};
 ghost use Rattle.std.specs.Prelude.{OnOk, OnErr, IfOk, string_bytes};
@@ -20,13 +20,13 @@ use std::marker::Model;
 use std::sync::Wait;
 use std::thread::Threads;
 
-// Room for what is sent with a text: its number, and its end.
+// The capacity for the number and the line end of a text.
 const NUMBERED_BYTES: usize = 16;
 
-// An answer of so many bytes is copied, whatever is to be sent before it.
+// The length up to which an answer is copied, whatever output is before it.
 const COPIED_BYTES: usize = 4096;
 
-/// One session: its terminal, whether it has ended, and what is to be sent.
+/// A session: its terminal, whether it has ended, and its output.
 #[derive(Drop)]
 pub struct Session {
     alloc: Global,
@@ -54,8 +54,7 @@ impl Session {
     ghost use Rattle.mud_session.specs.inner.TurnTexts.{sends, sent_for, Told, IsSaid, HasTurn};
     ghost use Rattle.mud_session.specs.Feeds.{Feeds, Nudges};
 
-    /// A session to which nothing came, and which sent nothing, or only the greeting. The only error
-    /// is out of memory.
+    /// Returns a session in its initial state, whose output is empty or the greeting. The only error is out of memory.
     pub fn new(alloc: Global, greet: bool) -> Result<Session, AllocError>
         ensures terminal { IfOk result (λ session. StandsAfter session.terminal []) }
         ensures open_still { IfOk result (λ session. session.has_ended ≡ false) }
@@ -74,14 +73,15 @@ impl Session {
         Ok(session)
     }
 
-    /// Whether `quit` was answered, or memory was refused to the session itself: it takes nothing more.
+    /// Returns whether the session has ended, by an answered `quit` or a failed allocation of its own. It consumes no
+    /// more input then.
     pub fn ended(&self) -> bool
         ensures { result ≡ self.now.has_ended }
     {
         self.has_ended
     }
 
-    /// What is to be sent, once. It takes no memory.
+    /// Returns the output since the last call. It does not allocate.
     pub fn take_out(&mut self) -> Vec<u8>
         ensures text { result.items ≡ self.old.out }
         ensures rest { self.new ≡ record self.old { out = [] } }
@@ -89,9 +89,9 @@ impl Session {
         std::mem::replace(&mut self.out, Vec::new(self.alloc))
     }
 
-    /// Takes bytes from the other side, and answers the lines that are whole now. Where memory runs out
-    /// for a line, the line is answered `(out of memory)`; where it runs out for what the session itself
-    /// keeps or sends, the session ends. A session that has ended answers `Ended`, and nothing changes.
+    /// Consumes bytes, and answers each line that they complete. If an allocation fails for a line, the answer is `(out
+    /// of memory)`; if it fails for the state or the output of the session itself, the session ends. On a session that
+    /// has ended, the error is `Ended`, and nothing changes.
     pub fn feed<X: Threads + Wait + Sync, D: Door>(
         &mut self,
         rt: &X,
@@ -109,19 +109,21 @@ impl Session {
         if self.has_ended {
             return Err(SessionFault::Ended);
         }
-        match self.take_in(rt, door, bytes) {
-            Ok(()) => Ok(()),
-            Err(_) => {
-                self.has_ended = true;
-                Err(SessionFault::OutOfMemory)
-            }
+        let mut units = Vec::new(self.alloc);
+        let Ok(()) = self.terminal.feed(bytes, &mut units) else {
+            return Err(self.end());
+        };
+        for unit in &units {
+            let Ok(()) = self.answer(rt, door, unit) else {
+                return Err(self.end());
+            };
         }
+        Ok(())
     }
 
-    /// Looks for what others did, and sends the notices that the desk was told. It is no error where
-    /// memory runs out for a look: what was not told is told by a later call. Where it runs out for what
-    /// the session itself sends, the session ends. One that has ended answers `Ended`, and nothing
-    /// changes.
+    /// Looks for the changes of others, and sends the notices of the desk. A failed allocation in the look is not an
+    /// error: a later call sends the missing notices. If it fails for the output of the session itself, the session
+    /// ends. On a session that has ended, the error is `Ended`, and nothing changes.
     pub fn nudge<D: Door>(&mut self, door: &mut D) -> Result<(), SessionFault>
         ensures ok { OnOk result (Nudges D.takes_in self.old self.new (D.state door.old) (D.state door.new)) }
         ensures over { self.old.has_ended ≡ true → (result ≡ Err SessionFault.Ended) × (self.new ≡ self.old)
@@ -135,37 +137,20 @@ impl Session {
         }
         match self.look(door) {
             Ok(_) => Ok(()),
-            Err(_) => {
-                self.has_ended = true;
-                Err(SessionFault::OutOfMemory)
-            }
+            Err(_) => Err(self.end()),
         }
     }
 
-    // Takes bytes into a session that has not ended.
-    fn take_in<X: Threads + Wait + Sync, D: Door>(
-        &mut self,
-        rt: &X,
-        door: &mut D,
-        bytes: &[u8],
-    ) -> Result<(), AllocError>
-        requires { self.old.has_ended ≡ false }
-        ensures feeds { OnOk result ((earlier : List ℕ) → StandsAfter self.old.terminal earlier
-            → Feeds D.takes_in earlier bytes.now self.old self.new (D.state door.old) (D.state door.new)) }
-        ensures capacity { (D.state door.new).capacity ≡ (D.state door.old).capacity }
+    // Ends the session after a failed allocation of its own.
+    fn end(&mut self) -> SessionFault
+        ensures fault { result ≡ SessionFault.OutOfMemory }
+        ensures ended { self.new.has_ended ≡ true }
     {
-        let mut units = Vec::new(self.alloc);
-        match self.terminal.feed(bytes, &mut units) {
-            Ok(()) => {}
-            Err(_) => return Err(AllocError),
-        }
-        for unit in &units {
-            self.answer(rt, door, unit)?;
-        }
-        Ok(())
+        self.has_ended = true;
+        SessionFault::OutOfMemory
     }
 
-    // Gives one unit its turn, unless the session has ended.
+    // Plays the turn of a unit, unless the session has ended. A blank line has no turn.
     fn answer<X: Threads + Wait + Sync, D: Door>(
         &mut self,
         rt: &X,
@@ -184,44 +169,19 @@ impl Session {
             Unit::TooLong => self.send("(line too long)"),
             Unit::Ayt => self.send("[Yes]"),
             Unit::Answer(bytes) => self.send_bytes(bytes.as_slice()),
-            Unit::Text(line) => self.answer_line(rt, door, line.as_str()),
+            Unit::Text(line) if is_blank(line.as_str()) => Ok(()),
+            Unit::Text(line) => match &parse(self.alloc, line.as_str()) {
+                Err(_) => {
+                    let _ = self.look(door)?;
+                    self.send("(out of memory)")
+                }
+                Ok(parsed) if is_question(parsed) => self.ask(rt, door, parsed),
+                Ok(parsed) => self.act(rt, door, parsed),
+            },
         }
     }
 
-    // Gives a line its turn. A blank line has none.
-    fn answer_line<X: Threads + Wait + Sync, D: Door>(
-        &mut self,
-        rt: &X,
-        door: &mut D,
-        line: &str,
-    ) -> Result<(), AllocError>
-        requires { self.old.has_ended ≡ false }
-        ensures turn { OnOk result (HasTurn D.takes_in (Text line.now)
-            self.old self.new (D.state door.old) (D.state door.new)) }
-        ensures capacity { (D.state door.new).capacity ≡ (D.state door.old).capacity }
-    {
-        if is_blank(line) {
-            return Ok(());
-        }
-        match &parse(self.alloc, line) {
-            Err(_) => self.refuse(door),
-            Ok(parsed) if is_question(parsed) => self.ask(rt, door, parsed),
-            Ok(parsed) => self.act(rt, door, parsed),
-        }
-    }
-
-    // A line for which memory was refused before it came to the desk.
-    fn refuse<D: Door>(&mut self, door: &mut D) -> Result<(), AllocError>
-        requires { self.old.has_ended ≡ false }
-        ensures turn { OnOk result ((line : List ℕ) → blank line ≡ false
-            → HasTurn D.takes_in (Text line) self.old self.new (D.state door.old) (D.state door.new)) }
-        ensures capacity { (D.state door.new).capacity ≡ (D.state door.old).capacity }
-    {
-        let _ = self.look(door)?;
-        self.send("(out of memory)")
-    }
-
-    // Answers a question, once the notices of what the desk has seen by then are sent.
+    // Sends the notices, and then answers a question by the entries that the desk has seen by then.
     fn ask<X: Threads + Wait + Sync, D: Door>(
         &mut self,
         rt: &X,
@@ -247,7 +207,7 @@ impl Session {
         }
     }
 
-    // Has the desk act on a line, and sends what it was told and then the reply.
+    // Makes the desk act on a line, and sends the notices and then the reply.
     fn act<X: Threads + Wait + Sync, D: Door>(
         &mut self,
         rt: &X,
@@ -260,7 +220,7 @@ impl Session {
             → HasTurn D.takes_in (Text text) self.old self.new (D.state door.old) (D.state door.new)) }
         ensures capacity { (D.state door.new).capacity ≡ (D.state door.old).capacity }
     {
-        // for the prover: the law that what a line asks is asked by the verb of a question
+        // for the prover: by this law, only the verb of a question asks
         questions();
         let reply = door.act(rt, line);
         self.tell(door)?;
@@ -284,7 +244,7 @@ impl Session {
         }
     }
 
-    // Has the desk take entries in, and sends what it was told; whether it was told all.
+    // Makes the desk see entries, and sends the notices. Returns whether all were sent.
     fn look<D: Door>(&mut self, door: &mut D) -> Result<bool, AllocError>
         ensures looked { OnOk result (self.old.has_ended ≡ false
             → Nudges D.takes_in self.old self.new (D.state door.old) (D.state door.new)) }
@@ -296,7 +256,7 @@ impl Session {
         Ok(is_all)
     }
 
-    // Sends what the desk was told.
+    // Sends the notices of the desk.
     fn tell<D: Door>(&mut self, door: &mut D) -> Result<(), AllocError>
         ensures told { OnOk result (Told self.old self.new (D.state door.old).desk (D.state door.new).desk) }
         ensures rest { (D.state door.new).desk ≡ with_told (D.state door.old).desk (D.state door.old).pending }
@@ -309,35 +269,19 @@ impl Session {
         Ok(())
     }
 
-    // Sends a reply, which names the version that it speaks of.
+    // Sends a reply, with the version that it is about.
     fn send_numbered(&mut self, version: u32, text: &str) -> Result<(), AllocError>
         ensures { OnOk result (self.new ≡ sends self.old (wire_text (with_version version text.now))) }
     {
-        self.make_room(text.len())?;
-        self.send_version(version)?;
+        self.out.reserve(text.len().saturating_add(NUMBERED_BYTES))?;
+        self.out.push(b'[')?;
+        self.send_bytes(Buffer::new().format(version).as_bytes())?;
+        self.send_bytes(b"] ")?;
         self.send(text)
     }
 
-    // Makes room for a text of so many bytes, its number and its end.
-    fn make_room(&mut self, bytes: usize) -> Result<(), AllocError>
-        ensures { OnOk result (self.new ≡ self.old) }
-    {
-        self.out.reserve(bytes.saturating_add(NUMBERED_BYTES))
-    }
-
-    // Sends the version that a text speaks of, which stands in front of it.
-    fn send_version(&mut self, version: u32) -> Result<(), AllocError>
-        ensures { OnOk result (self.new ≡ sends self.old (with_version version [])) }
-    {
-        self.out.push(b'[')?;
-        self.send_bytes(Buffer::new().format(version).as_bytes())?;
-        self.out.push(b']')?;
-        self.out.push(b' ')?;
-        Ok(())
-    }
-
-    // Sends an answer. One that is long, and longer than what is to be sent before it, is made what is sent where it
-    // stands: so in all no more is moved than is sent.
+    // Sends an answer. A long answer, longer than the output before it, becomes the output in place. So in all, no more
+    // bytes are moved than sent.
     fn send_answer(&mut self, version: u32, text: String) -> Result<(), AllocError>
         ensures { OnOk result (self.new ≡ sends self.old (wire_text (with_version version (string_bytes text)))) }
     {
@@ -357,7 +301,7 @@ impl Session {
         push_end(&mut self.out)
     }
 
-    // Sends bytes as they are.
+    // Sends bytes unchanged.
     fn send_bytes(&mut self, bytes: &[u8]) -> Result<(), AllocError>
         ensures { OnOk result (self.new ≡ sends self.old bytes.now) }
     {

@@ -1,4 +1,4 @@
-//! How a text is put on the wire: each LF as CR LF.
+//! Encodes output: each LF becomes CR LF.
 
 ghost use Rattle.std.specs.Prelude.{◌≡◌, ◌++◌, ◌∷◌, [], ◌+◌, ◌≤◌, length, take, drop, IfOk, OnOk, string_bytes};
 ghost use Rattle.mud_nvt.specs.declared.codes.TheConstants.{LF, CR};
@@ -22,7 +22,7 @@ pub(crate) fn push_on_wire(out: &mut Vec<u8>, text: &[u8]) -> Result<(), AllocEr
     out.extend_from_slice(rest)
 }
 
-/// Appends the end of a line.
+/// Appends a line end.
 pub(crate) fn push_end(out: &mut Vec<u8>) -> Result<(), AllocError>
     ensures { OnOk result (out.new.items ≡ out.old.items ++ CR ∷ LF ∷ []) }
 {
@@ -31,7 +31,7 @@ pub(crate) fn push_end(out: &mut Vec<u8>) -> Result<(), AllocError>
     Ok(())
 }
 
-/// Appends the number of an answer and its text, which is widened where it stands: so it is in memory only once.
+/// Appends the number of an answer and its text. The text is expanded in place, so it is in memory only once.
 pub(crate) fn answer_on_wire(
     before: Vec<u8>,
     number: &str,
@@ -44,7 +44,7 @@ pub(crate) fn answer_on_wire(
     put_on_wire(&front, text.into_bytes())
 }
 
-// What stands in front, and after it the text, which is widened where it stands.
+// Returns the prefix followed by the text, which is expanded in place.
 fn put_on_wire(front: &[u8], text: Vec<u8>) -> Result<Vec<u8>, AllocError>
     ensures { IfOk result (λ out. out.items ≡ front.now ++ flat_map on_wire text.items) }
 {
@@ -58,7 +58,7 @@ fn put_on_wire(front: &[u8], text: Vec<u8>) -> Result<Vec<u8>, AllocError>
     Ok(out)
 }
 
-// Widens the first `end` bytes, so that they are the last ones then, and puts what stands in front before them.
+// Expands the first `end` bytes so that they become the last ones, and writes the prefix before them.
 fn put_in_place(out: &mut [u8], end: usize, front: &[u8])
     requires within { end ≤ length out.old }
     requires fits { length out.old ≡ length front.now + length (flat_map on_wire (take end out.old)) }
@@ -68,7 +68,7 @@ fn put_in_place(out: &mut [u8], end: usize, front: &[u8])
     out[..front.len()].copy_from_slice(front);
 }
 
-// How long the text is on the wire.
+// Returns the length of the encoded text.
 fn length_on_wire(text: &[u8]) -> usize
     ensures { result ≡ length (flat_map on_wire text.now) }
 {
@@ -79,7 +79,8 @@ fn length_on_wire(text: &[u8]) -> usize
     len
 }
 
-// Widens the first `end` bytes from their end on, so that they are the last ones then, after the first `front`.
+// Expands the first `end` bytes, from their end to their beginning, so that they become the last ones after the first
+// `front` bytes.
 fn widen(out: &mut [u8], end: usize, front: usize)
     requires within { end ≤ length out.old }
     requires fits { length out.old ≡ front + length (flat_map on_wire (take end out.old)) }

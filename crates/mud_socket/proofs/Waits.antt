@@ -1,19 +1,19 @@
--- How long a read waits.
+-- The time that a read waits.
 use Rattle.std.proofs.Common.{◌≡◌, ◌≢◌, ℕ, zero, suc, Option, None, Some, Ok, Err, refl}
 use Rattle.mud_socket.specs.declared.parting.Parting.TheVariants.{Idle, Unnamed}
 use Rattle.mud_socket.specs.Patience.{wait_for, shorter_of}
 
--- nothing is left of the wait for a line
+-- no time is left for a line
 pub silent : (idle unnamed : Option ℕ) → idle ≡ Some 0 → wait_for idle unnamed ≡ Err Idle
 silent idle unnamed is = rw is refl
 
--- nothing is left of the wait for a player
+-- no time is left for a player
 pub late : (idle unnamed : Option ℕ) → idle ≢ Some 0 → unnamed ≡ Some 0 → wait_for idle unnamed ≡ Err Unnamed
 late None unnamed on is = rw is refl
 late (Some zero) unnamed on is = absurd (on refl)
 late (Some (suc n)) unnamed on is = rw is refl
 
--- something is left of both
+-- time is left for both
 pub goes : (idle unnamed : Option ℕ) → idle ≢ Some 0 → unnamed ≢ Some 0
     → wait_for idle unnamed ≡ Ok (shorter_of idle unnamed)
 goes (Some zero) unnamed on stays = absurd (on refl)

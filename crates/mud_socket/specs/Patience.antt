@@ -1,32 +1,32 @@
--- How long a session waits for the other side, in nanoseconds.
+-- The time limits of a session, in nanoseconds.
 use Rattle.std.specs.Prelude.{ℕ, zero, suc, ◌-◌, ◌*◌, min, Option, None, Some, Result, Ok, Err}
 use Rattle.mud_socket.specs.declared.parting.Parting.{Parting}
 use Rattle.mud_socket.specs.declared.parting.Parting.TheVariants.{Idle, Unnamed}
 
--- how long it may go without a line, and how long it may be nobody's player; when the last line came, and when it began
+-- the limits without a line and without a player, the time of the last line, and the time of the beginning
 pub record Waiting : Type 0 where
   pub idle : Option ℕ
   pub unnamed : Option ℕ
   pub last_line : ℕ
   pub start : ℕ
 
--- a limit of so many seconds; 0 is no limit
+-- a limit of this many seconds; 0 means no limit
 abbrev pub limit_of : ℕ → Option ℕ
 limit_of zero = None
 limit_of (suc n) = Some (suc n * 1_000_000_000)
 
--- what is left now of a limit that began at a time
+-- the time left of a limit that began at a time
 abbrev pub left_of : Option ℕ → (since now : ℕ) → Option ℕ
 left_of None since now = None
 left_of (Some limit) since now = Some (limit - (now - since))
 
--- the shorter of two waits, of which each may be without end
+-- the shorter of two waits; None is endless
 abbrev pub shorter_of : Option ℕ → Option ℕ → Option ℕ
 shorter_of None other = other
 shorter_of (Some n) None = Some n
 shorter_of (Some n) (Some m) = Some (min n m)
 
--- how long the next read waits; a wait of which nothing is left ends the session, that for a line before the other
+-- the time that the next read waits. A wait with no time left ends the session, the one for a line before the other
 abbrev pub wait_for : (idle unnamed : Option ℕ) → Result (Option ℕ) Parting
 wait_for (Some zero) unnamed = Err Idle
 wait_for idle (Some zero) = Err Unnamed

@@ -1,4 +1,4 @@
-//! The head of a browser's request, and how it is answered.
+//! Reads the head of a browser's request, and answers it.
 
 ghost use Rattle.std.specs.Prelude.{◌≡◌, true, IfOk, OnOk, Option, List, ℕ};
 ghost use Rattle.std.specs.Io.KnownBytes.{Consumes};
@@ -18,30 +18,30 @@ use std::io::{self, ErrorKind, Read};
 use std::sync::Wait;
 use std::time::Clock;
 
-/// How many seconds a browser has for the head of its request.
+/// The number of seconds that a browser has for the head of its request.
 pub const HEAD_SECONDS: u32 = 10;
 
 const PIECE_LEN: usize = 4096;
 
-/// What a browser asked for by the head of its request.
+/// The result of reading a request's head.
 #[derive(Drop)]
 pub enum Heard {
-    /// The page, with its body or without.
+    /// The request is for the page, with its body or without.
     Page(Body),
-    /// To play.
+    /// The request is for a web socket to play over.
     Play {
-        /// What that is answered, which goes before the first frame (RFC 6455, section 4.2.2).
+        /// The answer, which precedes the first frame (RFC 6455, section 4.2.2).
         answer: Vec<u8>,
-        /// What came after the head: frames.
+        /// The bytes after the head: frames.
         rest: Vec<u8>,
     },
-    /// Nothing that there is, or not in time; and whether the answer has a body.
+    /// The request is refused, or was too slow. The second part says whether the answer has a body.
     Refused(Refusal, Body),
-    /// Nothing: the other side left, or memory ran out.
+    /// The other side left, or an allocation failed.
     Gone,
 }
 
-/// Reads a browser's socket for as long as it has for a head: then a read is timed out.
+/// Reads a browser's socket until its time for a head is over; then a read times out.
 #[derive(Drop)]
 pub struct HeadReader<'a, C> {
     clock: &'a C,
@@ -50,7 +50,7 @@ pub struct HeadReader<'a, C> {
 }
 
 impl<'a, C: Clock> HeadReader<'a, C> {
-    /// A reader whose time begins now.
+    /// Returns a reader whose time begins now.
     pub fn new(clock: &'a C, socket: &'a Socket) -> HeadReader<'a, C> {
         HeadReader {
             clock,
@@ -71,17 +71,17 @@ impl<'a, C: Clock> Read for HeadReader<'a, C> {
     }
 }
 
-// Why no more of a head comes.
+// The reason why a head stays incomplete.
 #[derive(Clone, Copy)]
 enum Missed {
-    // Its time is over.
+    // The time is over.
     TooLate,
-    // The other side left, or memory ran out.
+    // The other side left, or an allocation failed.
     Left,
 }
 
-/// Reads the head of a browser's request, at a server whose page has this origin, up to the end of the source, or until
-/// a read is timed out. Who is to play sent a head that is let in.
+/// Reads the head of a browser's request, up to the end of the source or a timeout. `origin` is the origin of the
+/// server's page. A browser that may play sent a head that is admitted.
 pub fn hear<R: Wait, S: Read>(rt: &R, alloc: Global, source: &mut S, origin: &[u8]) -> Heard
     ensures { WasLetIn result (S.remaining source.old) (S.remaining source.new) origin.now }
 {
@@ -102,7 +102,7 @@ pub fn hear<R: Wait, S: Read>(rt: &R, alloc: Global, source: &mut S, origin: &[u
     unreachable!()
 }
 
-// Adds what is read next.
+// Appends the bytes of the next read.
 fn read_more<S: Read>(source: &mut S, head: &mut Vec<u8>) -> Result<(), Missed>
     ensures { OnOk result (ReadsMore (S.remaining source.old) (S.remaining source.new) head.old.items
         head.new.items) }
@@ -120,7 +120,7 @@ fn read_more<S: Read>(source: &mut S, head: &mut Vec<u8>) -> Result<(), Missed>
     }
 }
 
-// What these bytes ask for.
+// Returns the result for these bytes.
 fn asked_for(alloc: Global, head: &[u8], origin: &[u8], asked: Asked) -> Heard
     requires lets_in { LetsIn head.now origin.now asked }
     requires graphic { IfPlay asked (λ accept. is_graphic_text accept ≡ true) }
@@ -138,7 +138,7 @@ fn asked_for(alloc: Global, head: &[u8], origin: &[u8], asked: Asked) -> Heard
     }
 }
 
-// That somebody plays who is answered by this key, and what came after his head.
+// Returns the result for a browser that may play: the answer to its key, and the bytes after its head.
 fn let_in(alloc: Global, accept: &[u8; 28], rest: &[u8]) -> Result<Heard, AllocError>
     requires { is_graphic_text accept.now ≡ true }
     ensures { IfOk result (λ heard. IsPlaying heard accept.now rest.now) }

@@ -1,12 +1,11 @@
-//! The socket of a connection: what is read and sent there, for how long the other side is waited for, and what ended
-//! its session.
+//! The socket of a connection: reads and writes with time limits, and the reason why its session ended.
 //!
-//! A [`Socket`] reads as long as a [`Patience`] allows and writes whole texts, each with a time limit. It knows neither
-//! sessions nor the journal: whoever sends a text waits first until the versions in it are on the disk. A browser is
-//! heard first ([`hear`]): the server sends it the page, refuses it, or lets it in to play.
+//! A [`Socket`] reads as long as a [`Patience`] allows, and writes whole texts, each with a time limit. It knows
+//! neither sessions nor the journal: the caller first waits until the versions in a text are durable. A browser's head
+//! is read first ([`hear`]): the server sends it the page, refuses it, or admits it to play.
 //!
-//! Threads: any number may share a socket. One reads, any may write, and `shut` ends both. A read blocks until bytes
-//! come or the patience ends, a write until the other side takes the text or its time is over.
+//! Threads: any number may share a socket. One thread reads, any may write, and `shut` ends both. A read blocks until
+//! bytes arrive or the patience ends, and a write until the other side takes the text or its time is over.
 #![tactic(auto)]
 
 mod head;

@@ -1,4 +1,4 @@
-//! What the system is told of the socket of a connection.
+//! Options of a connection's socket.
 
 use libc::net::{
     IPPROTO_TCP, SO_KEEPALIVE, SOL_SOCKET, TCP_KEEPCNT, TCP_KEEPIDLE, TCP_KEEPINTVL,
@@ -7,27 +7,27 @@ use libc::net::{
 use std::net::TcpStream;
 use std::os::fd::AsRawFd;
 
-/// After how many silent seconds the other side is first asked whether it is there.
+/// The number of silent seconds before the first keep-alive probe.
 const PROBE_AFTER_SECONDS: i32 = 60;
 
-/// After how many seconds it is asked again.
+/// The number of seconds between two probes.
 const PROBE_SECONDS: i32 = 15;
 
-/// How many such questions it leaves unanswered before the connection ends.
+/// The number of unanswered probes after which the connection ends.
 const PROBES: i32 = 4;
 
-/// After how many milliseconds the connection ends if what was sent is not acknowledged.
+/// The number of milliseconds after which the connection ends if sent bytes are not acknowledged.
 const UNACKNOWLEDGED_MILLISECONDS: i32 = 120_000;
 
-// The value of an option that is a number.
+// Returns the value of a numeric option.
 fn number(number: i32) -> [u8; 16] {
     let mut value = [0u8; 16];
     value[..4].copy_from_slice(&number.to_ne_bytes());
     value
 }
 
-/// Has the system find out when the other side of a connection has vanished (RFC 1122, section 4.2.3.6): a silent one
-/// within two minutes and a half, one that owes an acknowledgement within two; whether that could be set.
+/// Enables keep-alive, so that the system detects a vanished peer (RFC 1122, section 4.2.3.6): a silent one within two
+/// and a half minutes, and one that owes an acknowledgement within two. Returns whether the options could be set.
 pub(crate) fn probe(stream: &TcpStream) -> bool {
     let fd = stream.as_raw_fd();
     unsafe {

@@ -1,4 +1,4 @@
-//! What ends a session.
+//! The ends of a session.
 
 ghost use Rattle.std.specs.Prelude.{◌≡◌, option_map};
 ghost use Rattle.mud_socket.specs.Parting.{ending_line, line_of, close_of};
@@ -7,17 +7,17 @@ use mud_web::Ending as Close;
 use thiserror::Error;
 use websocket::error;
 
-/// Why all sessions end at once.
+/// The reason why all sessions end at once.
 #[derive(Clone, Copy, Debug, PartialEq, Eq)]
 pub enum Ending {
-    /// The server ends.
+    /// The server is shutting down.
     Stop,
-    /// The journal takes no more.
+    /// The journal has failed.
     JournalFault,
 }
 
 impl Ending {
-    /// What each session is told of it.
+    /// Returns the last line of each session.
     pub fn line(self) -> &'static str
         ensures { result.now ≡ ending_line self }
     {
@@ -28,40 +28,40 @@ impl Ending {
     }
 }
 
-/// What ended a session, as the log names it.
+/// The reason why a session ended, as the log names it.
 #[derive(Clone, Copy, Debug, PartialEq, Eq, Error)]
 pub enum Parting {
     /// The player typed `quit`, or the other side closed or reset the connection.
     #[error("left")]
     Left,
-    /// The other side sent no line for as long as the limit says.
+    /// The other side sent no line for the time of the limit.
     #[error("idle")]
     Idle,
-    /// The session was nobody's player for as long as the limit says.
+    /// The session had no player for the time of the limit.
     #[error("unnamed")]
     Unnamed,
-    /// The other side took what was sent too slowly.
+    /// The other side was too slow to take the output.
     #[error("write time-out")]
     WriteTimeout,
     /// A frame of the web socket broke a rule of the protocol, or a limit.
     #[error("broken frame")]
     BrokenFrame,
-    /// What came first by Telnet was the request of a browser.
+    /// The first input of a Telnet session was a browser's request.
     #[error("request")]
     Request,
-    /// Memory ran out for the session itself.
+    /// An allocation failed for the session itself.
     #[error("out of memory")]
     OutOfMemory,
-    /// The server ends.
+    /// The server is shutting down.
     #[error("server stops")]
     ServerStops,
-    /// The journal takes no more.
+    /// The journal has failed.
     #[error("journal fault")]
     JournalFault,
 }
 
 impl Parting {
-    /// What ended a session that ends with all others.
+    /// Returns the reason of a session that ends with all others.
     pub fn of_all(ending: Ending) -> Parting {
         match ending {
             Ending::Stop => Parting::ServerStops,
@@ -69,7 +69,7 @@ impl Parting {
         }
     }
 
-    /// What ended a session whose web socket ended by this error.
+    /// Returns the reason of a session whose web socket ended with this error.
     pub fn of_error(error: &error::Error) -> Parting {
         match error {
             error::Error::Protocol(_) | error::Error::Utf8 | error::Error::Capacity(_) => {
@@ -80,7 +80,7 @@ impl Parting {
         }
     }
 
-    /// What the other side is told at the end, if that is why all sessions end.
+    /// Returns the last line for the other side, if all sessions end.
     pub fn line(self) -> Option<&'static str>
         ensures { option_map (λ line. line.now) result ≡ line_of self }
     {
@@ -91,8 +91,9 @@ impl Parting {
         }
     }
 
-    /// How a web socket is closed at the end. After a text that was not taken whole no frame can follow, and a broken
-    /// frame was answered by a close already; a browser's request ends sessions by Telnet only.
+    /// Returns the close of a web socket at the end. There is none after a text that was not taken whole, because no
+    /// frame can follow it, and none after a broken frame, which was already answered by a close. A browser's request
+    /// ends only Telnet sessions.
     pub fn close(self) -> Option<Close>
         ensures { result ≡ close_of self }
     {

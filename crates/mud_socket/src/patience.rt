@@ -1,4 +1,4 @@
-//! How long a session waits for the other side.
+//! The time limits of a session.
 
 ghost use Rattle.std.specs.Prelude.{◌≡◌, ◌≢◌, false, Some, None, min, option_map, IfOk, IfErr};
 ghost use Rattle.std.specs.Result.{result_map_both};
@@ -9,7 +9,7 @@ use crate::parting::Parting;
 use std::marker::Model;
 use std::time::Duration;
 
-/// How long a session waits for a line, and for its player, and since when.
+/// The time limits of a session: for a line, and for its player, each with the time at which it began.
 #[derive(Drop)]
 pub struct Patience {
     idle: Option<Duration>,
@@ -36,7 +36,7 @@ impl Model for Patience {
     ghost invariant = { λ p. p.is_limited ≡ false → (p.idle ≡ None) × (p.unnamed ≡ None) };
 }
 
-// A limit of this many seconds; 0 is none.
+// Returns a limit of this many seconds; 0 means no limit.
 fn limit(seconds: u32) -> Option<Duration>
     ensures { option_map as_nanos result ≡ limit_of seconds }
 {
@@ -46,7 +46,7 @@ fn limit(seconds: u32) -> Option<Duration>
     }
 }
 
-// The shorter of two waits, of which each may be for ever.
+// Returns the shorter of two waits; each may be endless.
 fn shorter(one: Option<Duration>, other: Option<Duration>) -> Option<Duration>
     ensures { option_map as_nanos result ≡ shorter_of (option_map as_nanos one) (option_map as_nanos other) }
 {
@@ -57,7 +57,7 @@ fn shorter(one: Option<Duration>, other: Option<Duration>) -> Option<Duration>
     }
 }
 
-// The shorter of two times.
+// Returns the shorter of two times.
 fn sooner(one: Duration, other: Duration) -> Duration
     ensures { as_nanos result ≡ min (as_nanos one) (as_nanos other) }
 {
@@ -69,8 +69,8 @@ fn sooner(one: Duration, other: Duration) -> Duration
 }
 
 impl Patience {
-    /// The patience with a session that starts now, and is nobody's player: it ends after so many seconds without a
-    /// line, and after so many in which it stays nobody's player; 0 is no limit.
+    /// Returns the limits of a session that begins now and has no player. It ends after `idle` seconds without a line,
+    /// and after `unnamed` seconds without a player; 0 means no limit.
     pub fn new(idle: u32, unnamed: u32, now: Duration) -> Patience
         ensures { result ≡ record {
           idle = limit_of idle;
@@ -88,28 +88,28 @@ impl Patience {
         }
     }
 
-    /// A line came now.
+    /// Records that a line came now.
     pub fn hear(&mut self, now: Duration)
         ensures { self.new ≡ record self.old { last_line = as_nanos now } }
     {
         self.last_line = now;
     }
 
-    /// Whether there was a limit at the start.
+    /// Returns whether there was a limit at the start.
     pub fn is_limited(&self) -> bool
         ensures { result ≡ false → (self.now.idle ≡ None) × (self.now.unnamed ≡ None) }
     {
         self.is_limited
     }
 
-    /// The session is a player's from now on.
+    /// Records that the session has a player from now on.
     pub fn name(&mut self)
         ensures { self.new ≡ record self.old { unnamed = None } }
     {
         self.unnamed = None;
     }
 
-    /// How long the next read may wait, for ever where there is no limit; or what ends the session now.
+    /// Returns how long the next read may wait, `None` for no limit. The error is the reason why the session ends now.
     #[tactic(auto, using(crate::proofs::Waits::silent, crate::proofs::Waits::late, crate::proofs::Waits::goes))]
     pub fn wait(&self, now: Duration) -> Result<Option<Duration>, Parting>
         ensures { result_map_both (option_map as_nanos) (λ p. p) result ≡ wait_of self.now (as_nanos now) }
@@ -120,7 +120,7 @@ impl Patience {
     }
 }
 
-// What is left now of a limit that began at a time; nothing is what ends the session.
+// Returns the time left of a limit that began at a time. No time left ends the session.
 fn time_left(
     limit: Option<Duration>,
     since: Duration,

@@ -1,4 +1,4 @@
-//! The socket of a connection, and what ended its session.
+//! Sockets of connections.
 
 ghost use Rattle.std.specs.Prelude.{◌≤◌, length, IfOk};
 
@@ -11,34 +11,35 @@ use std::net::{IpAddr, Ipv4Addr, Shutdown, SocketAddr, TcpStream};
 use std::sync::{Mutex, Wait};
 use std::time::{Clock, Duration};
 
-// How many seconds the other side has for taking a text, and one more for each such piece of it that it took.
+// The number of seconds that the other side has for taking a text. It gets one more second for each such piece that it
+// took.
 const WRITE_SECONDS: u64 = 60;
 
 const PIECE_LEN: usize = 16_384;
 
-// How many seconds a browser has for taking the answer to its request, and one more for each such piece.
+// The number of seconds that a browser has for taking the answer to its request, and one more for each such piece.
 const ANSWER_SECONDS: u64 = 10;
 
-// How long what the other side still sends is let go, once it was told the last, and how many bytes of that.
+// The limits of draining a socket after the last output, in seconds and in bytes.
 const DRAIN_SECONDS: u32 = 2;
 
 const DRAIN_MOST: usize = 262_144;
 
 const DRAIN_LEN: usize = 4096;
 
-// How long it is tried to say why all sessions end.
+// The time limit for telling why all sessions end.
 const ENDING_SECONDS: u64 = 4;
 
-/// By which way a connection came.
+/// The listener through which a connection came.
 #[derive(Clone, Copy, Debug, PartialEq, Eq)]
 pub enum Entrance {
     /// By Telnet.
     Telnet,
-    /// By the door on the web.
+    /// The web listener.
     Web,
 }
 
-/// The socket of a connection, by which way it came, and what ended its session first.
+/// The socket of a connection, its entrance, and the first reason why its session ended.
 #[derive(Drop)]
 pub struct Socket {
     stream: TcpStream,
@@ -46,15 +47,15 @@ pub struct Socket {
     parting: Mutex<Option<Parting>>,
 }
 
-// How long the other side has for taking a text of which it took so many bytes, where it has so many seconds for one of
-// which it took nothing.
+// Returns the time that the other side has for a text after it took `taken` bytes, if it has `seconds` seconds for the
+// first byte.
 fn time_for(seconds: u64, taken: usize) -> Duration {
     let more = (taken / PIECE_LEN) as u64;
     Duration::from_secs(seconds.saturating_add(more))
 }
 
-/// Sets up the socket of a new session, whatever the listener's is: each reply is sent at once, a read waits for ever,
-/// a write as long as the other side has for a text, and a peer that vanished is found out; whether that could be set.
+/// Sets the options of a new session's socket, whatever the listener's are. Output is sent at once, a read waits
+/// forever, and a write waits for the time of a text. A vanished peer is detected. Returns whether they could be set.
 pub fn set_up(stream: &TcpStream) -> bool {
     stream.set_nodelay(true).is_ok()
         && stream.set_read_timeout(None).is_ok()
@@ -65,7 +66,7 @@ pub fn set_up(stream: &TcpStream) -> bool {
 }
 
 impl Socket {
-    /// The socket of a connection that came by this entrance.
+    /// Returns the socket of a connection that came through this entrance.
     pub fn new(stream: TcpStream, entrance: Entrance) -> Socket {
         Socket {
             stream,
@@ -74,18 +75,18 @@ impl Socket {
         }
     }
 
-    /// By which way it came.
+    /// Returns the entrance.
     pub fn entrance(&self) -> Entrance {
         self.entrance
     }
 
-    /// The address of the other side; where it is gone already, 0.0.0.0:0.
+    /// Returns the address of the other side, or 0.0.0.0:0 if it is already gone.
     pub fn peer(&self) -> SocketAddr {
         let nobody = SocketAddr::new(IpAddr::V4(Ipv4Addr::UNSPECIFIED), 0);
         self.stream.peer_addr().unwrap_or(nobody)
     }
 
-    /// Something ends the session; what ended it first.
+    /// Records a reason for the end of the session. Returns the first recorded reason.
     pub fn part<R: Wait>(&self, rt: &R, parting: Parting) -> Parting {
         let mut first = self.parting.lock(rt);
         match *first {
@@ -97,8 +98,8 @@ impl Socket {
         }
     }
 
-    /// Reads what comes next, and waits no longer than the patience is; how many bytes came. What ends the session is
-    /// the end of the other side, too.
+    /// Reads the next bytes, and waits no longer than the patience allows. Returns the number of bytes. The error is
+    /// the reason for the end of the session; the end of the input is one too.
     pub fn read<C: Clock>(
         &self,
         clock: &C,
@@ -121,13 +122,13 @@ impl Socket {
         }
     }
 
-    /// Has a read wait for ever again, unless a patience says less; whether that could be set.
+    /// Makes a read wait forever again, unless a patience says less. Returns whether the option could be set.
     pub fn wait_for_ever(&self) -> bool {
         self.stream.set_read_timeout(None).is_ok()
     }
 
-    /// Sends all of a text; what ended the session, if the other side did not take all of it. Such a text is the last
-    /// one: the socket is shut, so that no other thread sends what comes after it.
+    /// Sends a whole text. The error is the reason for the end of the session, if the other side did not take all of
+    /// it. Such a text is the last one: the socket is shut, so that no other thread sends anything after it.
     pub fn send<R: Wait + Clock>(&self, rt: &R, text: &[u8]) -> Result<(), Parting> {
         let written = self.write(rt, text);
         if written.is_err() {
@@ -136,7 +137,7 @@ impl Socket {
         written
     }
 
-    // Writes all of a text, unless the other side takes it too slowly or is gone.
+    // Writes a whole text, unless the other side is too slow or gone.
     fn write<R: Wait + Clock>(&self, rt: &R, text: &[u8]) -> Result<(), Parting> {
         let start = now(rt);
         let taken = self.write_some(text)?;
@@ -156,9 +157,8 @@ impl Socket {
         self.shut();
     }
 
-    /// Sends nothing more, and lets go what the other side still sends, until it ends the connection, too, for two
-    /// seconds, or a quarter of a megabyte: a socket that is closed while there is something to be read takes back what
-    /// was sent last (RFC 9112, section 9.6).
+    /// Ends writing, and drains further input until the other side ends the connection, for at most two seconds or a
+    /// quarter of a megabyte. Closing a socket with unread input would discard the last output (RFC 9112, section 9.6).
     pub fn drain<R: Wait + Clock>(&self, rt: &R) {
         self.end_writing();
         let patience = Patience::new(0, DRAIN_SECONDS, now(rt));
@@ -172,12 +172,12 @@ impl Socket {
         }
     }
 
-    /// Sends nothing more, of which the other side hears; what it sends can still be read.
+    /// Ends writing, which the other side can see. Its input can still be read.
     pub fn end_writing(&self) {
         let _ = self.stream.shutdown(Shutdown::Write);
     }
 
-    // Writes what is left of a text, of which so many bytes were taken since the start.
+    // Writes the rest of a text, after `taken` bytes were taken since the start.
     fn write_rest<R: Wait + Clock>(
         &self,
         rt: &R,
@@ -201,7 +201,7 @@ impl Socket {
         unreachable!()
     }
 
-    // Writes as much of a text as is taken before the socket's time is over; how much that was.
+    // Writes as much of a text as the other side takes before the socket's time is over. Returns the number of bytes.
     fn write_some(&self, text: &[u8]) -> Result<usize, Parting> {
         let mut stream = &self.stream;
         match stream.write(text) {
@@ -212,12 +212,12 @@ impl Socket {
         }
     }
 
-    // Has the next write wait for the other side as long as it has for a text of which it took nothing.
+    // Makes the next write wait for the time of a text's first byte.
     fn be_patient(&self) -> Result<(), Parting> {
         self.wait_at_most(time_for(WRITE_SECONDS, 0))
     }
 
-    // Has the next write wait so long.
+    // Makes the next write wait this long.
     fn wait_at_most(&self, wait: Duration) -> Result<(), Parting> {
         match self.stream.set_write_timeout(Some(wait)) {
             Ok(()) => Ok(()),
@@ -225,8 +225,8 @@ impl Socket {
         }
     }
 
-    /// Says once why all sessions end, where that is taken soon. Who comes second waits until it was said. A session
-    /// that has ended otherwise is told nothing.
+    /// Sends once why all sessions end, if the other side takes it soon. A second caller waits until it was sent. A
+    /// session that has ended for another reason gets nothing.
     pub fn tell_ending<R: Wait>(&self, rt: &R, ending: Ending) {
         let mut first = self.parting.lock(rt);
         if first.is_some() {
@@ -236,14 +236,14 @@ impl Socket {
         self.say_last(ending.line().as_bytes());
     }
 
-    /// Sends what is said at the end, where that is taken soon.
+    /// Sends the last text, if the other side takes it soon.
     pub fn say_last(&self, text: &[u8]) {
         let mut stream = &self.stream;
         let _ = stream.set_write_timeout(Some(Duration::from_secs(ENDING_SECONDS)));
         let _ = stream.write_all(text);
     }
 
-    /// Shuts the socket, which ends what another thread reads or writes there.
+    /// Shuts the socket, which ends a read or a write of another thread.
     pub fn shut(&self) {
         let _ = self.stream.shutdown(Shutdown::Both);
     }

@@ -1,10 +1,10 @@
--- What is left of what was written, byte by byte.
+-- The bytes left of written ones, byte by byte.
 use Rattle.std.proofs.Common.{◌≡◌, ◌⊎◌, inl, inr, ℕ, ◌<◌, List, [], ◌∷◌, ◌++◌, length, get_or, refl, arith}
 use Rattle.std.proofs.Common.{Bool, true, false, Option, Some, None, sym, subst}
 use Rattle.std.specs.Prelude.{if◌then◌else◌}
 use Rattle.mud_journal.specs.Disk.{AreThere, IsLeft}
 
--- one byte more
+-- one more byte
 pub one_more : (written bytes : List ℕ) (b : ℕ) → AreThere written bytes
     → (length bytes < length written) × (b ≡ get_or written (length bytes) 0) ⊎ (b ≡ 0)
     → AreThere written (bytes ++ b ∷ [])
@@ -18,12 +18,12 @@ one_more (a ∷ written) (c ∷ bytes) b (same, there) (inl (lt, is)) =
     (same, one_more written bytes b there (inl (omega (arith, lt), is)))
 one_more (a ∷ written) (c ∷ bytes) b (same, there) (inr hole) = (same, one_more written bytes b there (inr hole))
 
--- behind bytes that are there
+-- after bytes that are there
 pub behind : (synced written bytes : List ℕ) → AreThere written bytes → AreThere (synced ++ written) (synced ++ bytes)
 behind [] written bytes there = there
 behind (a ∷ synced) written bytes there = (inl refl, behind synced written bytes there)
 
--- what a crash leaves of a disk
+-- the contents of a disk after a crash
 pub left_of : (is_made : Bool) (synced unsynced more bytes : List ℕ) → AreThere unsynced more → bytes ≡ synced ++ more
     → IsLeft (if is_made then Some (record { appended = synced ++ unsynced; synced = synced }) else None) bytes
 left_of false synced unsynced more bytes there is = tt

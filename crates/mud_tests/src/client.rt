@@ -1,4 +1,4 @@
-//! A client of a server that only this machine reaches.
+//! A client of a server on this machine.
 
 use std::alloc::Global;
 use std::io;
@@ -6,7 +6,7 @@ use std::io::{Read, Write};
 use std::net::{Net, SocketAddr, TcpListener, TcpStream};
 use std::time::Duration;
 
-// Adds the next line that comes, with a `;` in place of its end; only that at the end of the connection.
+// Appends the next line, with a `;` in place of its line end. At the end of the connection it appends only that.
 fn read_line(mut stream: &TcpStream, line: &mut String) -> io::Result<()> {
     let mut byte = [0u8; 1];
     for _ in 0..200 {
@@ -29,7 +29,7 @@ fn send_line(mut stream: &TcpStream, line: &str) -> io::Result<()> {
     Ok(())
 }
 
-// Types lines, with a `;` between them, and reads a line after each.
+// Types lines, separated by `;`, and reads a line after each.
 fn talk(stream: &TcpStream, lines: &str, heard: &mut String) -> io::Result<()> {
     for line in lines.split(';') {
         send_line(stream, line)?;
@@ -38,7 +38,7 @@ fn talk(stream: &TcpStream, lines: &str, heard: &mut String) -> io::Result<()> {
     Ok(())
 }
 
-// Comes to a server, and waits at most twenty seconds for a line.
+// Connects to a server, with a timeout of twenty seconds for a line.
 fn connect<R: Net<Listener = TcpListener, Stream = TcpStream>>(
     rt: &R,
     address: SocketAddr,
@@ -48,8 +48,8 @@ fn connect<R: Net<Listener = TcpListener, Stream = TcpStream>>(
     Ok(stream)
 }
 
-/// What a client is sent who types these lines, with a `;` between them, and reads a line after each: all of it, with
-/// a `;` in place of each line's end. For an empty line he only reads; where there are none nobody comes.
+/// Returns the output for a client that types these lines, separated by `;`, and reads a line after each: all of it,
+/// with a `;` in place of each line end. For an empty line the client only reads. Without lines no client connects.
 pub(crate) fn play<R: Net<Listener = TcpListener, Stream = TcpStream>>(
     rt: &R,
     alloc: Global,

@@ -1,5 +1,5 @@
-//! A disk in memory of which a contract says what it keeps. Its calls fail by a list, and what a crash leaves of it is
-//! cut and has holes. A journal is found on it, begun, added to, and found again in what a crash leaves.
+//! A disk in memory whose contents a contract states. A list decides which of its calls fail, and a crash cuts its
+//! contents and leaves holes. A journal is found on it, begun, appended to, and recovered after a crash.
 
 ghost use Rattle.std.specs.Prelude.{◌≡◌, ◌<◌, ◌⊎◌, IfOk, length, get_or};
 ghost use Rattle.mud_journal.specs.Disk.{AreThere, IsLeft};
@@ -13,8 +13,8 @@ use std::io::{self, Read};
 use std::process::Abort;
 use std::test::Fail;
 
-// What comes of a call of a disk: it is done, it fails and nothing has happened, or it fails and was done all the same,
-// an append in part.
+// The fate of a disk's call: it is done; it fails without effect; or it fails with an effect, which for an append may
+// be partial.
 #[derive(Clone, Copy, PartialEq, Eq)]
 enum Fate {
     Done,
@@ -22,8 +22,8 @@ enum Fate {
     Tears,
 }
 
-// What stands on a disk: what was written and synced, and what was written since; before that, what the disk had, of
-// which nothing is known. The last fate is that of the next call; where there are none, calls are done.
+// The contents of a disk: the bytes written and synced, the bytes written since, and the earlier bytes, about which
+// nothing is known. The last fate is that of the next call; without fates calls are done.
 #[derive(Drop)]
 struct Store {
     alloc: Global,
@@ -35,7 +35,7 @@ struct Store {
 }
 
 impl Store {
-    // A disk that has these bytes.
+    // Returns a disk that has these bytes.
     fn new(alloc: Global, had: Vec<u8>) -> Store {
         Store {
             alloc,
@@ -47,7 +47,7 @@ impl Store {
         }
     }
 
-    // What a read answers, whatever a crash would leave.
+    // Returns the bytes that a read returns, which a crash may lose.
     fn read_all(&self) -> Result<Vec<u8>, AllocError> {
         if !self.is_made {
             return Vec::from_slice(self.alloc, &self.had);
@@ -57,7 +57,7 @@ impl Store {
         Ok(bytes)
     }
 
-    // What a crash leaves: behind what was synced so many bytes more, of which some are holes.
+    // Returns the bytes after a crash: the synced ones, and `more` bytes after them, with holes.
     fn crash(&self, more: usize, hole: usize) -> Result<Vec<u8>, AllocError>
         ensures { IfOk result (λ v.
             IsLeft (kept_of self.now.is_made self.now.synced.items self.now.unsynced.items) v.items) }
@@ -72,7 +72,8 @@ impl Store {
     }
 }
 
-// What is left at a place where these bytes were written: the byte, or a zero at each `hole`-th place, and behind them.
+// Returns the byte left at a place where these bytes were written: the byte itself, or a zero at each `hole`-th place
+// and past the end.
 fn byte_left(written: &[u8], at: usize, hole: usize) -> u8
     ensures { (at < length written.now) × (result ≡ get_or written.now at 0) ⊎ (result ≡ 0) }
 {
@@ -82,7 +83,7 @@ fn byte_left(written: &[u8], at: usize, hole: usize) -> u8
     written[at]
 }
 
-// What is left of these bytes at so many places.
+// Returns the bytes left of these bytes at `count` places.
 fn holes(alloc: Global, written: &[u8], count: usize, hole: usize) -> Result<Vec<u8>, AllocError>
     ensures { IfOk result (λ v. AreThere written.now v.items) }
 {
@@ -93,7 +94,7 @@ fn holes(alloc: Global, written: &[u8], count: usize, hole: usize) -> Result<Vec
     Ok(bytes)
 }
 
-// A disk, which is read from its beginning.
+// A disk, read from its beginning.
 #[derive(Drop)]
 struct KnownDisk<'s> {
     store: &'s mut Store,
@@ -101,7 +102,7 @@ struct KnownDisk<'s> {
 }
 
 impl KnownDisk<'_> {
-    // What comes of the next call.
+    // Returns the fate of the next call.
     fn fate(&mut self) -> Fate
         ensures made { self.new.store.now.is_made ≡ self.old.store.now.is_made }
         ensures synced { self.new.store.now.synced.items ≡ self.old.store.now.synced.items }
@@ -185,8 +186,8 @@ impl Disk for KnownDisk<'_> {
     }
 }
 
-// Reads these bytes of a disk, and adds what the entries have more, two at a time, until a call fails; how many were
-// found, and how many are synced.
+// Recovers a disk with these bytes, and appends the further entries, two at a time, until a call fails. Returns how
+// many were found, and how many are synced.
 fn go_on(
     rt: &impl Abort,
     alloc: Global,
@@ -209,7 +210,8 @@ fn go_on(
     (had, journal.receipt().up_to())
 }
 
-// A disk with nothing on it, of which the call after so many ends so, and how many of the entries are told then.
+// Returns an empty disk after the entries were written, where this fate comes after `calls` successful calls, and the
+// number of entries reported as synced.
 fn played(
     rt: &impl Abort,
     alloc: Global,
@@ -226,7 +228,7 @@ fn played(
     Ok((store, told))
 }
 
-// Sees that in what a crash left all is found that was told, and that the journal goes on from it.
+// Checks that recovery after a crash finds every entry that was reported, and that the journal can be continued.
 fn check_left(
     rt: &impl Abort,
     alloc: Global,
@@ -242,7 +244,7 @@ fn check_left(
     Ok(())
 }
 
-// Sees that all that was told is found, for each length and some holes that a crash may leave.
+// Checks this for each length and some holes that a crash may leave.
 fn check_crashes(
     rt: &impl Abort,
     alloc: Global,
@@ -260,7 +262,7 @@ fn check_crashes(
 
 const FATES: [Fate; 3] = [Fate::Done, Fate::Fails, Fate::Tears];
 
-// Refused are a receipt before its sync, and a reader that stops at no zero.
+// Rejects a receipt before its sync, and a reader that does not stop at a zero.
 #[test]
 fn what_was_told_is_found_whatever_a_crash_leaves(rt: HostRuntime) -> Result<(), Fail> {
     let alloc = rt.alloc();
@@ -274,7 +276,7 @@ fn what_was_told_is_found_whatever_a_crash_leaves(rt: HostRuntime) -> Result<(),
     Ok(())
 }
 
-// What a read answers of a disk of which a call failed, is not on it. Refused is a start that does not write anew.
+// The result of reading a disk after a failed call is not durable. Rejects a start that does not rewrite the file.
 #[test]
 fn what_was_only_read_is_written_anew(rt: HostRuntime) -> Result<(), Fail> {
     let alloc = rt.alloc();

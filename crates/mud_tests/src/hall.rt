@@ -1,5 +1,5 @@
-//! Halls with each desk on a thread of its own: what no contract of a call can refuse, since none knows
-//! what lies under a lock, or whether a cell is found that another desk has set.
+//! Halls with each desk on a thread of its own. No contract of a call can state what is under a lock, or that a desk
+//! finds the cell that another thread has set.
 
 ghost use Rattle.std.specs.Prelude.{◌≡◌, ◌≤◌};
 ghost use Rattle.mud_world.specs.declared.limits.TheConstants.{MOST_ENTRIES};
@@ -16,7 +16,7 @@ use std::test::Fail;
 use std::thread;
 use std::thread::Threads;
 
-// A desk becomes the wizard's, and then sends a line so many times.
+// Connects a desk as the wizard, and then sends a line `count` times.
 fn talk<J: HallName, R: Wait + AllocGlobal>(
     rt: &R,
     hall: &Hall<J>,
@@ -30,12 +30,12 @@ fn talk<J: HallName, R: Wait + AllocGlobal>(
     }
 }
 
-// What a thread does with a hall and a desk of it, whatever their types are.
+// The action of a thread with a hall and a desk, whatever their types are.
 trait Talks<H, D> {
     fn talk<R: Wait + AllocGlobal>(rt: &R, hall: &H, desk: D, count: u32) -> D;
 }
 
-// What it does with the hall that `J` names.
+// The action with the hall that `J` names.
 #[derive(Drop)]
 struct OfHall<J: HallName> {
     of: PhantomData<J>,
@@ -49,7 +49,7 @@ impl<J: HallName> Talks<Hall<J>, Desk<J>> for OfHall<J> {
     }
 }
 
-// Each desk talks, on a thread of its own.
+// Makes each desk talk, on a thread of its own.
 fn talk_all<
     H: Sync,
     D: Send + Drop,
@@ -59,7 +59,7 @@ fn talk_all<
     thread::map_vec(rt, desks, &|desk| K::talk(rt, hall, desk, count))
 }
 
-// So many desks.
+// Returns this many desks.
 fn give_desks<J: HallName, R: Wait + AllocGlobal>(
     rt: &R,
     alloc: Global,
@@ -73,7 +73,7 @@ fn give_desks<J: HallName, R: Wait + AllocGlobal>(
     Ok(desks)
 }
 
-// So many desks, which talked at once.
+// Returns this many desks after they talked at the same time.
 fn crowd_desks<J: HallName + Send + Sync, R: Threads + Wait + AllocGlobal + Sync>(
     rt: &R,
     alloc: Global,
@@ -85,7 +85,7 @@ fn crowd_desks<J: HallName + Send + Sync, R: Threads + Wait + AllocGlobal + Sync
     Ok(talk_all::<Hall<J>, Desk<J>, OfHall<J>, R>(rt, hall, desks, lines)?)
 }
 
-// How many changes were accepted at these desks.
+// Returns the number of changes accepted at these desks.
 fn count_accepted<J: HallName>(desks: &[Desk<J>]) -> usize {
     let mut accepted = 0_usize;
     for desk in desks {
@@ -94,7 +94,7 @@ fn count_accepted<J: HallName>(desks: &[Desk<J>]) -> usize {
     accepted
 }
 
-// Whether a line finds the history full.
+// Returns whether a line finds the history full.
 fn is_full<J: HallName, R: Wait + AllocGlobal>(rt: &R, hall: &Hall<J>, desk: &mut Desk<J>) -> bool {
     match act(rt, hall, desk, "say hi") {
         Err(fault) => fault == Fault::HistoryFull,
@@ -102,7 +102,7 @@ fn is_full<J: HallName, R: Wait + AllocGlobal>(rt: &R, hall: &Hall<J>, desk: &mu
     }
 }
 
-// Closes a hall with these desks and one more; how many entries there are.
+// Closes a hall with these desks and one more. Returns the number of entries.
 fn close_hall<J: HallName, R: Wait + AllocGlobal>(
     rt: &R,
     hall: Hall<J>,
@@ -117,7 +117,8 @@ fn close_hall<J: HallName, R: Wait + AllocGlobal>(
     }
 }
 
-// A hall is not closed without this desk, which then finds the history full, or not; how many entries there are then.
+// Checks that a hall is not closed without this desk, and whether the desk then finds the history full. Returns the
+// number of entries.
 fn closed_at_last<J: HallName, R: Wait + AllocGlobal + Abort>(
     rt: &R,
     hall: Hall<J>,
@@ -136,7 +137,7 @@ fn closed_at_last<J: HallName, R: Wait + AllocGlobal + Abort>(
     }
 }
 
-// The version at which a desk answers.
+// Returns the version at which a desk answers.
 fn version<J: HallName, R: AllocGlobal>(
     rt: &R,
     hall: &Hall<J>,
@@ -146,7 +147,7 @@ fn version<J: HallName, R: AllocGlobal>(
     Ok(desk.ask(hall, &said)?.version)
 }
 
-// Sees that a desk answers by what it has seen, and that it sees all that another made once it looks.
+// Checks that a desk answers by the entries it has seen, and that a look finds all entries of another desk.
 fn check_seeing<J: HallName, R: Wait + AllocGlobal + Abort>(
     rt: &R,
     hall: &Hall<J>,
@@ -161,7 +162,7 @@ fn check_seeing<J: HallName, R: Wait + AllocGlobal + Abort>(
     Ok(())
 }
 
-// How many entries a desk has seen that comes last to a hall, where another made seven things.
+// Returns the number of entries seen by a desk that is given after another desk made seven things.
 fn seen_at_last<J: HallName, R: Wait + AllocGlobal + Abort>(
     rt: &R,
     hall: &Hall<J>,
@@ -172,8 +173,8 @@ fn seen_at_last<J: HallName, R: Wait + AllocGlobal + Abort>(
     Ok(hall.desk(rt)?.seen())
 }
 
-// Sees how many lines of a crowd at a hall are accepted, and whether the history is full after them; how many entries
-// there are. Where there is no crowd, one desk sees another.
+// Checks how many lines of a crowd are accepted, and whether the history is full afterwards. Returns the number of
+// entries. Without a crowd, one desk sees another.
 fn check_crowd_in<J: HallName + Send + Sync, R: Threads + Wait + AllocGlobal + Sync + Abort>(
     rt: &R,
     alloc: Global,
@@ -198,7 +199,7 @@ fn check_crowd_in<J: HallName + Send + Sync, R: Threads + Wait + AllocGlobal + S
     }
 }
 
-// Has a crowd play at a new hall, and sees how many entries it has then.
+// Makes a crowd play at a new hall, and checks the number of entries.
 fn check_crowd<R: Threads + Wait + AllocGlobal + Sync + Abort>(
     rt: &R,
     alloc: Global,
@@ -217,11 +218,11 @@ fn check_crowd<R: Threads + Wait + AllocGlobal + Sync + Abort>(
     Ok(())
 }
 
-// A desk that sees another; four desks at once; eight, with so many lines that their threads meet; and four at a
-// history that is too short for all. Refused are a `see` and a new desk that never find what another made; an `act`
-// that publishes at the desk's own stale place, or takes no lock: a line would not be stored; one that answers
-// `HistoryFull` while there is room, as after a look at the desk's old world; and a `close` that never answers Ok, does
-// without a desk, names one that is there, or ends the hall all the same.
+// Plays a desk that sees another, four desks at once, eight desks with enough lines for their threads to meet, and four
+// desks with a history that is too short. Rejects a `see` or a new desk that never finds the entries of another.
+// Rejects an `act` that publishes at the desk's own stale place or takes no lock, because a line would not be stored,
+// and one that returns `HistoryFull` while there is room. Rejects a `close` that never succeeds, succeeds without a
+// desk, names a desk that is present, or ends the hall after a fault.
 #[test]
 fn crowds(rt: HostRuntime) -> Result<(), Fail> {
     check_crowd(&rt, rt.alloc(), 16, 0, 0, 0, 7)?;

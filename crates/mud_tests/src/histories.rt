@@ -1,4 +1,4 @@
-//! Histories and certificates as texts: entry by entry, copied, whole, replayed and judged.
+//! Histories and certificates as texts: written entry by entry, copied, written whole, replayed and checked.
 
 ghost use Rattle.std.specs.Prelude.{◌≤◌};
 
@@ -12,7 +12,7 @@ use std::alloc::{AllocError, Global};
 use std::process::Abort;
 use std::test::Fail;
 
-/// The history with the dear exit #3 and a way round it of six exits, and Bob #16 at its end.
+/// A history with the expensive exit #3, a detour of six exits, and Bob #16 at its end.
 pub(crate) const WAY_ROUND: &str = "mud history 2
 1 1 dig #1 new \"T\" out \"far\"
 2 1 cost #1 #3 10000
@@ -50,7 +50,7 @@ const SAID: &str = "mud history 2
 end 1
 ";
 
-// A history with one way, and the proof of the wizard's journey there.
+// A history with one exit, and the proof of the wizard's journey by it.
 const LIBRARY: &str = "mud history 1
 1 1 dig #1 new \"Library\" out \"north\" back \"south\"
 end 1
@@ -91,7 +91,7 @@ fn push_copies(alloc: Global, entries: &[Entry], text: &mut String) -> Result<()
     Ok(())
 }
 
-// A history as it is written entry by entry, with this last line.
+// Returns a history written entry by entry, with this last line.
 fn by_entries(alloc: Global, history: &str, end: &str) -> Result<String, Fail> {
     let mut text = String::from_str(alloc, "mud history 2\n")?;
     push_copies(alloc, &read_history(alloc, history.as_bytes())?, &mut text)?;
@@ -110,7 +110,7 @@ fn push_whole(
     write_history(alloc, entries, text)
 }
 
-// A history as it is written whole.
+// Returns a history written whole.
 fn whole(rt: &impl Abort, alloc: Global, history: &str) -> Result<String, Fail> {
     let mut text = String::new(alloc);
     push_whole(
@@ -146,14 +146,14 @@ fn a_history_is_written_as_it_was_read(rt: HostRuntime) -> Result<(), Fail> {
     Ok(())
 }
 
-// A certificate as it is written.
+// Returns a certificate as it is written.
 fn certificate_text(alloc: Global, proof: &str) -> Result<String, Fail> {
     let mut text = String::new(alloc);
     read(alloc, proof.as_bytes())?.write(alloc, &mut text)?;
     Ok(text)
 }
 
-// Whether a certificate is valid where a history leads.
+// Returns whether a certificate is valid in the world of a history.
 fn is_valid(alloc: Global, history: &str, proof: &str) -> Result<bool, Fail> {
     let world = world(alloc, history)?;
     Ok(check(&world, &read(alloc, proof.as_bytes())?).is_ok())
@@ -179,7 +179,7 @@ fn a_certificate_is_read_written_and_judged(rt: HostRuntime) -> Result<(), Fail>
     Ok(())
 }
 
-// Sees what the verdict is where something stands in place of a part of that proof.
+// Checks the verdict on that proof with a part replaced.
 fn check_verdict(
     rt: &impl Abort,
     alloc: Global,

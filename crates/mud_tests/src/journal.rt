@@ -1,4 +1,4 @@
-//! Journals on a disk in memory, of which each call fails in turn; by their own calls, and under a server.
+//! Journals on a disk in memory, where each call fails in turn: through their own calls, and under a server.
 
 ghost use Rattle.std.specs.Prelude.{◌≤◌};
 ghost use Rattle.mud_world.specs.declared.limits.TheConstants.{MOST_ENTRIES};
@@ -22,8 +22,8 @@ use std::thread::Threads;
 use std::time::Clock;
 use std::{io, thread};
 
-// What is on a disk in memory, how many of its first bytes are synced, how many calls there were, and which of them
-// fails; 0: none.
+// The bytes of a disk in memory, the number of synced ones, the number of calls so far, and the call that fails; 0
+// means none.
 #[derive(Drop)]
 struct Store {
     bytes: Vec<u8>,
@@ -33,7 +33,7 @@ struct Store {
 }
 
 impl Store {
-    // A disk on which these bytes are.
+    // Returns a disk with these bytes.
     fn new(bytes: Vec<u8>, fails_at: u32) -> Store {
         let synced = bytes.len();
         Store {
@@ -44,7 +44,7 @@ impl Store {
         }
     }
 
-    // One call more, which may fail.
+    // Counts one more call, which may fail.
     fn call(&mut self) -> Result<(), DiskFault> {
         self.calls = self.calls.saturating_add(1);
         if self.calls == self.fails_at {
@@ -55,8 +55,8 @@ impl Store {
     }
 }
 
-// A disk in memory, whose bytes are read behind its back. An append that fails has appended all the same: so a crash
-// may leave any front of it.
+// A disk in memory whose bytes the test reads directly. A failed append has appended its bytes, so a crash may leave
+// any prefix of them.
 #[derive(Drop)]
 struct MemoryDisk<'s> {
     store: &'s mut Store,
@@ -97,7 +97,7 @@ impl Disk for MemoryDisk<'_> {
     }
 }
 
-// Adds entries, two at a time. After a fault it is tried once more.
+// Appends entries, two at a time. After a fault it tries once more.
 fn commit(
     rt: &impl Abort,
     alloc: Global,
@@ -112,7 +112,7 @@ fn commit(
     }
 }
 
-// Adds what these entries have more than a disk; how many of them are synced then.
+// Appends the entries that the disk does not have. Returns the number of synced ones.
 fn add_entries(
     rt: &impl Abort,
     alloc: Global,
@@ -129,7 +129,7 @@ fn add_entries(
     }
 }
 
-// What is found on a disk.
+// Returns the journal found on a disk.
 fn found_on<'s>(
     alloc: Global,
     store: &'s mut Store,
@@ -139,7 +139,7 @@ fn found_on<'s>(
     Ok(found)
 }
 
-// Adds what these entries have more than the disk; how many were found there, and how many are synced.
+// Appends the entries that the disk does not have. Returns how many were found, and how many are synced.
 fn complete(
     rt: &impl Abort,
     alloc: Global,
@@ -152,12 +152,12 @@ fn complete(
     Ok((had, add_entries(rt, alloc, found, entries)))
 }
 
-// A disk on which these bytes are.
+// Returns a disk with these bytes.
 fn disk_of(alloc: Global, bytes: &[u8]) -> Result<Store, AllocError> {
     Ok(Store::new(Vec::from_slice(alloc, bytes)?, 0))
 }
 
-// Sees that in these bytes the entries that were synced are found, and that the journal can be gone on from there.
+// Checks that recovery finds the synced entries in these bytes, and that the journal can be continued.
 fn check_front(
     rt: &impl Abort,
     alloc: Global,
@@ -172,7 +172,7 @@ fn check_front(
     Ok(())
 }
 
-// Sees that it is so in whatever a crash leaves of the disk.
+// Checks this for every possible content after a crash.
 fn check_fronts(
     rt: &impl Abort,
     alloc: Global,
@@ -188,7 +188,7 @@ fn check_fronts(
     Ok(())
 }
 
-/// The entries of a journal's text.
+/// Returns the entries of a journal's text.
 pub(crate) fn entries_of(alloc: Global, text: &str) -> Result<Vec<Entry>, ChronFault> {
     Ok(read_front(alloc, text.as_bytes())?.entries)
 }
@@ -202,10 +202,10 @@ pub(crate) const TEXT: &str = "mud history 2
 5 1 emote #1 waves
 ";
 
-/// How many calls it takes to write it: one for the first line, and two calls for each two entries.
+/// The number of calls that write it: one for the first line, and two for each two entries.
 pub(crate) const CALLS: u32 = 7;
 
-// Sees what is left where this call fails.
+// Checks the contents after this call fails.
 fn check_fault(
     rt: &impl Abort,
     alloc: Global,
@@ -218,7 +218,7 @@ fn check_fault(
     check_fronts(rt, alloc, &store, entries, TEXT, synced)
 }
 
-// Refused are a receipt before its sync, and a journal that touches the disk after a fault.
+// Rejects a receipt before its sync, and a journal that uses the disk after a fault.
 #[test]
 fn each_call_of_a_disk_fails(rt: HostRuntime) -> Result<(), Fail> {
     let entries = entries_of(rt.alloc(), TEXT)?;
@@ -228,7 +228,7 @@ fn each_call_of_a_disk_fails(rt: HostRuntime) -> Result<(), Fail> {
     Ok(())
 }
 
-// The limits of a server that serves one session.
+// Returns the limits of a server for one session.
 fn limits() -> Limits
     ensures sessions { result.sessions ≤ MOST_DESKS }
     ensures workers { result.workers ≤ MOST_WORKERS }
@@ -269,7 +269,7 @@ fn serve<
     }
 }
 
-// How a server ended.
+// Returns the end of a server as a word.
 fn end_word(served: &Result<(), ServerFault>) -> &'static str {
     match served {
         Ok(()) => "done",
@@ -279,13 +279,13 @@ fn end_word(served: &Result<(), ServerFault>) -> &'static str {
     }
 }
 
-// A listener on a free port that only this machine reaches.
+// Returns a listener on a free port of this machine.
 fn bind<R: Net<Listener = TcpListener, Stream = TcpStream>>(rt: &R) -> io::Result<TcpListener> {
     TcpListener::bind(rt, SocketAddr::from((Ipv4Addr::LOCALHOST, 0)))
 }
 
-// Has a client type lines to a server over a disk: what he is sent, and how the server ends. What the server writes is
-// added to `written`.
+// Plays the lines of a client at a server over a disk. Returns the client's output and the end of the server, and
+// appends the server's output to `written`.
 fn serve_client<
     R: Net<Listener = TcpListener, Stream = TcpStream>
         + AllocGlobal
@@ -314,14 +314,14 @@ fn serve_client<
     Ok(heard)
 }
 
-// What is written after the line of the port.
+// Returns the output after the line of the port.
 fn history_of(written: &[u8]) -> &str {
     let text = str::from_utf8(written).unwrap_or("");
     text.split_once('\n').unwrap_or(("", "")).1
 }
 
-// Sees what a client of a server over a disk is sent for the lines that he types, with how the server ends, and what it
-// writes after the line of its port.
+// Checks the output for a client's lines at a server over a disk, the end of the server, and its output after the line
+// of its port.
 fn check_served<
     R: Net<Listener = TcpListener, Stream = TcpStream>
         + AllocGlobal
@@ -344,8 +344,8 @@ const OF_BOB: &str = "mud history 2
 2 1 say #2 hi
 ";
 
-// Sees what a client is sent where this call of the disk fails; the journal that is left has so many of the changes at
-// least.
+// Checks the output for a client when this call of the disk fails. The remaining journal has at least `told` of the
+// changes.
 fn check_fault_of<
     R: Net<Listener = TcpListener, Stream = TcpStream>
         + AllocGlobal
@@ -369,7 +369,7 @@ fn check_fault_of<
     check_fronts(rt, rt.alloc(), &store, entries, OF_BOB, told)
 }
 
-// Sees what a session is told where each call for the disk from the first to the last of these fails in turn.
+// Checks the output for a session when each of these calls of the disk fails in turn.
 fn check_faults<
     R: Net<Listener = TcpListener, Stream = TcpStream>
         + AllocGlobal
@@ -387,7 +387,8 @@ fn check_faults<
     Ok(())
 }
 
-// What Bob types: first he only waits for a line, and last, where the server ends before him, for another.
+// The lines of Bob. The first and the last are empty, so Bob waits for a line: at first for the greeting, and at the
+// end for the server to stop.
 const UNKNOWN: &str = ";connect Bob;";
 
 const OF_UNKNOWN: &str = "Welcome. Type: connect NAME;(journal fault);;journal fault: disk";
@@ -402,8 +403,8 @@ const HEARD: &str = ";connect Bob;say hi;quit";
 const OF_HEARD: &str =
     "Welcome. Type: connect NAME;[1] welcome #2;[2] said;[2] bye;journal fault: disk";
 
-// Refused are a server that tells of a change before it is synced, or that the disk failed and goes on all the same.
-// After the two calls for each change are two of the server's end.
+// Rejects a server that reports a change before it is synced, or continues after the disk failed. The last two calls
+// come at the server's end, after two for each change.
 #[test]
 fn each_call_of_a_disk_fails_under_a_server(rt: HostRuntime) -> Result<(), Fail> {
     check_faults(&rt, 1, 1, "", "cannot open journal", 0)?;
@@ -420,7 +421,7 @@ const DONE: &str = "mud history 2
 end 2
 ";
 
-// Refused are a journal that lacks an entry of the history that is written, and one that has a last line.
+// Rejects a journal without an entry of the printed history, and one with a last line.
 #[test]
 fn a_journal_has_the_history_without_its_last_line(rt: HostRuntime) -> Result<(), Fail> {
     let mut store = Store::new(Vec::new(rt.alloc()), 0);

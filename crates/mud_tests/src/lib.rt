@@ -1,11 +1,9 @@
-//! The tests of the libraries: what no example of a program shows, and what refuses a wrong body that
-//! no contract refuses.
+//! The tests of the libraries: behaviour that no example of a program shows, and wrong bodies that no contract refuses.
 //!
-//! Tables that a program can show are no tests: they stand in `tests/`, and the programs are run on them. The main
-//! public calls that may run out of memory are made here on worked values, since a body that always answers so meets
-//! every contract; the programs make the others. No other crate has a test, so each of them is proved once. Here a
-//! table is a text of rows, which one function answers: a test is proved like any function, and a row of a text costs
-//! nothing.
+//! Tables that a program can show are in `tests/`, and the programs are run on them. The main public calls that can run
+//! out of memory are made here on worked values, because a body that always returns out of memory meets every contract;
+//! the programs make the other calls. No other crate has a test, so each of them is proved once. A table here is a text
+//! of rows, which one function answers: a test is proved like any function, and a row of a text costs nothing.
 #![tactic(auto)]
 
 #[cfg(test)]

@@ -1,10 +1,10 @@
-//! Lines, as players type them.
+//! Lines as players type them.
 
 use mud_hall::{Desk, Fault, Hall, HallName, Reply, Solo};
 use mud_words::parse;
 use std::sync::Wait;
 
-/// Has a desk act on a line.
+/// Makes a desk act on a line.
 pub(crate) fn act<J: HallName, R: Wait + AllocGlobal>(
     rt: &R,
     hall: &Hall<J>,
@@ -15,7 +15,7 @@ pub(crate) fn act<J: HallName, R: Wait + AllocGlobal>(
     hall.act(rt, desk, &said)
 }
 
-/// Has a desk of one user act on a line.
+/// Makes a single-user desk act on a line.
 pub(crate) fn act_alone<R: AllocGlobal>(
     rt: &R,
     solo: &mut Solo,

@@ -1,4 +1,4 @@
-//! A frontier by hand, and its labels.
+//! A frontier driven by hand, and its labels.
 
 ghost use Rattle.std.specs.Prelude.{◌≡◌, ◌≤◌, All, length};
 ghost use Rattle.mud_roads.specs.Passable.{IsTraveller};
@@ -16,8 +16,8 @@ use std::process::Abort;
 use std::slice;
 use std::test::Fail;
 
-// The exits #3 from #0 to #2 at cost 9, #5 from #0 to #4 at 3, #6 from #4 to #2 at 4, #8 from #2 to
-// #7 at 1, and #9 from #2 to #0 at 1.
+// Five exits: #3 from #0 to #2 at cost 9, #5 from #0 to #4 at 3, and #6 from #4 to #2 at 4. The exits #8 to #7 and #9
+// to #0 leave #2, at 1 each.
 pub(crate) const CROSSING: &str = "mud history 2
 1 1 dig #1 new \"A\" out \"a\"
 2 1 cost #1 #3 9
@@ -33,7 +33,7 @@ pub(crate) const CROSSING: &str = "mud history 2
 end 11
 ";
 
-// Puts a task with the steps of its room.
+// Returns a task with the steps of its room.
 fn put<J: Job>(
     frontier: &mut Frontier<J>,
     alloc: Global,
@@ -53,7 +53,7 @@ fn put<J: Job>(
     }
 }
 
-// Does the move with a task, and tells whether that came of it: it is taken, given back, or put.
+// Makes the move with a task: takes it, gives it back, or puts it. Returns whether the move had the expected result.
 fn moves<J: Job>(
     frontier: &mut Frontier<J>,
     alloc: Global,
@@ -77,8 +77,8 @@ fn moves<J: Job>(
     }
 }
 
-// The moves of the wizard alone, who begins at #0: each `MOVE ROOM COST EXITS`, with a task of his, and how many rooms
-// wait and are held after it.
+// The moves of the wizard alone, who begins in #0: each `MOVE ROOM COST EXITS`, with a task of the wizard, and the
+// numbers of waiting and of held rooms after it.
 const MOVES: &str = "
 take 0 0 0 => 0 1
 back 0 0 1 => 0 1
@@ -97,7 +97,7 @@ take 7 8 3 => 0 1
 done 7 8 3 => 0 0
 ";
 
-// The task of `ROOM COST EXITS`.
+// Returns the task of `ROOM COST EXITS`.
 fn task_of(text: &str) -> Task {
     let (room, label) = split_word(text);
     Task {
@@ -107,7 +107,7 @@ fn task_of(text: &str) -> Task {
     }
 }
 
-// The label of `COST EXITS`.
+// Returns the label of `COST EXITS`.
 fn label_of(text: &str) -> Label {
     let (cost, exits) = split_word(text);
     Label {
@@ -116,7 +116,7 @@ fn label_of(text: &str) -> Label {
     }
 }
 
-// Does a move, and tells whether so many rooms then wait and are held.
+// Makes a move, and returns whether these numbers of rooms then wait and are held.
 fn goes_so<J: Job>(
     frontier: &mut Frontier<J>,
     alloc: Global,
@@ -136,7 +136,7 @@ fn goes_so<J: Job>(
     Ok(is_so && rest.waiting == digit(waiting) as usize && rest.held == digit(held) as usize)
 }
 
-// Does the moves, each as told; no room waits at the end.
+// Makes the moves, and checks each. No room waits at the end.
 fn play<J: Job>(
     rt: &impl Abort,
     alloc: Global,
@@ -156,13 +156,13 @@ fn play<J: Job>(
             );
         }
     }
-    // it does nothing as it runs: from it a caller's contract has the facts of a frontier
+    // it does nothing at run time; its contract gives the caller the invariant of the frontier
     frontier.facts();
     assert!(rt; frontier.take().is_none());
     Ok(())
 }
 
-// The labels that a frontier has after the moves.
+// Returns the labels of a frontier after the moves.
 fn by_hand<J: Job>(
     rt: &impl Abort,
     alloc: Global,
@@ -179,7 +179,7 @@ fn by_hand<J: Job>(
     Ok(frontier.into_labels())
 }
 
-/// What the labels of the crossing are, from #0: each room with its cost and how many exits lead there.
+/// The labels of the crossing from #0: each room with its cost and its number of exits.
 pub(crate) const LABELS: &str = "#0:0/0 #2:7/2 #4:3/1 #7:8/3 ";
 
 // Appends the label of a room.
@@ -190,7 +190,7 @@ fn push_label(room: u32, label: Option<Label>, out: &mut String) -> Result<(), A
     }
 }
 
-/// The labels of the first member at each of the first twenty numbers; there is none past the last.
+/// Returns the labels of the first member at the first twenty numbers. Numbers past the last room have none.
 pub(crate) fn text_of(alloc: Global, labels: &Labels) -> Result<String, AllocError> {
     let mut text = String::new(alloc);
     for room in 0..20 {
@@ -201,7 +201,7 @@ pub(crate) fn text_of(alloc: Global, labels: &Labels) -> Result<String, AllocErr
     Ok(text)
 }
 
-// The labels of the wizard's rooms.
+// Returns the labels of the wizard's rooms.
 fn wizards_labels(rt: &impl Abort, alloc: Global, world: &World) -> Result<Labels, AllocError> {
     assert!(rt; world.is_player(1));
     let wizard = Traveller::of(alloc, world, 1)?;

@@ -1,5 +1,5 @@
-//! Sessions: what two guests of one hall are sent, and when; a session of a script; and the desk of one user. All are
-//! on one thread.
+//! Sessions: the output for two guests of one hall and its order, the session of a script, and the single-user desk.
+//! All are on one thread.
 
 ghost use Rattle.std.specs.Prelude.{◌≡◌};
 
@@ -16,14 +16,14 @@ use std::sync::Wait;
 use std::test::Fail;
 use std::thread::Threads;
 
-// A guest's session, and the desk that it sits at.
+// A guest's session, and its desk.
 #[derive(Drop)]
 struct Guest<'h, J: HallName> {
     session: Session,
     seat: Seat<'h, J>,
 }
 
-// A guest comes.
+// Begins a guest's session.
 fn greet<'h, J: HallName, R: Wait + AllocGlobal>(
     rt: &R,
     alloc: Global,
@@ -36,7 +36,7 @@ fn greet<'h, J: HallName, R: Wait + AllocGlobal>(
     })
 }
 
-// A guest types a line; for an empty one he types nothing, and what others did is looked for.
+// Types a line of a guest. For an empty line the guest types nothing, and the session looks for changes of others.
 fn type_line<J: HallName, R: Threads + Wait + AllocGlobal + Sync>(
     rt: &R,
     alloc: Global,
@@ -51,7 +51,7 @@ fn type_line<J: HallName, R: Threads + Wait + AllocGlobal + Sync>(
     Ok(session.feed(rt, seat, line.as_bytes()))
 }
 
-// Appends what a guest is sent for a line.
+// Appends the output for a guest's line.
 fn push_typed<J: HallName, R: Threads + Wait + AllocGlobal + Sync>(
     rt: &R,
     alloc: Global,
@@ -65,8 +65,8 @@ fn push_typed<J: HallName, R: Threads + Wait + AllocGlobal + Sync>(
     }
 }
 
-// Refused are a session that tells its guest nothing of what others did, late, twice, or after its
-// reply; one that greets twice or not at all; and one that goes on after `quit`.
+// Rejects a session that sends its guest no notices, sends them late, twice or after its reply, greets twice or not at
+// all, or continues after `quit`.
 const GUESTS: &str = "
 1 => Welcome. Type: connect NAME;
 2 => Welcome. Type: connect NAME;
@@ -82,7 +82,7 @@ const GUESTS: &str = "
 1 @version => [2] version;
 ";
 
-// Sees that the row `GUEST LINE => TEXT` is answered as it says.
+// Checks the row `GUEST LINE => TEXT`.
 fn check_row<'h, J: HallName, R: Threads + Wait + AllocGlobal + Sync + Abort>(
     rt: &R,
     alloc: Global,
@@ -101,7 +101,7 @@ fn check_row<'h, J: HallName, R: Threads + Wait + AllocGlobal + Sync + Abort>(
     Ok(())
 }
 
-// Sees that all rows are answered as they say.
+// Checks all rows.
 fn check_guests<'h, J: HallName, R: Threads + Wait + AllocGlobal + Sync + Abort>(
     rt: &R,
     alloc: Global,
@@ -115,7 +115,7 @@ fn check_guests<'h, J: HallName, R: Threads + Wait + AllocGlobal + Sync + Abort>
     Ok(())
 }
 
-// Two guests of a hall are sent what the rows say.
+// Checks the rows for two guests of a hall.
 fn play_at<J: HallName, R: Threads + Wait + AllocGlobal + Sync + Abort>(
     rt: &R,
     alloc: Global,
@@ -126,7 +126,7 @@ fn play_at<J: HallName, R: Threads + Wait + AllocGlobal + Sync + Abort>(
     Ok(check_guests(rt, alloc, &mut first, &mut second)?)
 }
 
-// Two guests of a new hall are sent what the rows say.
+// Checks the rows for two guests of a new hall.
 fn play<J: HallName, R: Threads + Wait + AllocGlobal + Sync + Abort>(
     rt: &R,
     alloc: Global,
@@ -144,7 +144,7 @@ fn guests_at_one_hall(rt: HostRuntime) -> Result<(), Fail> {
     play::<Brand, _>(&rt, rt.alloc(), hall)
 }
 
-// A desk, where one request for memory may be refused.
+// Returns a desk; one allocation may fail.
 fn desk<J: HallName, R: Wait + AllocGlobal>(rt: &R, hall: &Hall<J>) -> Result<Desk<J>, Fault> {
     match hall.desk(rt) {
         Ok(desk) => Ok(desk),
@@ -152,7 +152,7 @@ fn desk<J: HallName, R: Wait + AllocGlobal>(rt: &R, hall: &Hall<J>) -> Result<De
     }
 }
 
-// Acts on a line, where one request for memory may be refused.
+// Acts on a line; one allocation may fail.
 fn act_twice<J: HallName, R: Wait + AllocGlobal>(
     rt: &R,
     hall: &Hall<J>,
@@ -164,7 +164,7 @@ fn act_twice<J: HallName, R: Wait + AllocGlobal>(
     }
 }
 
-// What the wizard does that Bob hears.
+// Makes the changes of the wizard that Bob hears.
 fn act_all<J: HallName, R: Wait + AllocGlobal>(
     rt: &R,
     hall: &Hall<J>,
@@ -178,12 +178,13 @@ fn act_all<J: HallName, R: Wait + AllocGlobal>(
     act_twice(rt, hall, wizard, "say ho");
 }
 
-// Whether it is each line once, in order; where memory is refused to the session itself it ends, with a front of them.
+// Returns whether the output is each line once, in order. If an allocation of the session itself fails, it ends after a
+// prefix of them.
 fn is_each_once(sent: &[u8], ended: bool) -> bool {
     HEARD.as_bytes().starts_with(sent) && (ended || sent.len() == HEARD.len())
 }
 
-// What one who has not looked since he came is sent when he looks twice, if it is as it should be.
+// Returns the output of two looks of a guest who has not looked before, if it is correct.
 fn hears_each_once<J: HallName>(
     alloc: Global,
     hall: &Hall<J>,
@@ -197,7 +198,7 @@ fn hears_each_once<J: HallName>(
     Ok(is_each_once(&session.take_out(), ended))
 }
 
-// Whether Bob hears so what the Wizard does.
+// Returns whether Bob hears the wizard's changes in this way.
 fn is_told_once<J: HallName, R: Threads + Wait + AllocGlobal + Sync>(
     rt: &R,
     alloc: Global,
@@ -209,7 +210,7 @@ fn is_told_once<J: HallName, R: Threads + Wait + AllocGlobal + Sync>(
     Ok(hears_each_once(alloc, hall, bob)?)
 }
 
-// Whether Bob hears so in a new hall what the Wizard does.
+// Returns whether Bob hears the wizard's changes in this way in a new hall.
 fn is_told_once_in<J: HallName, R: Threads + Wait + AllocGlobal + Sync>(
     rt: &R,
     alloc: Global,
@@ -223,7 +224,7 @@ fn is_told_once_in<J: HallName, R: Threads + Wait + AllocGlobal + Sync>(
 
 const HEARD: &str = "(2) Wizard says, \"hi\"\r\n(3) Wizard waves.\r\n(4) Wizard says, \"ho\"\r\n";
 
-// A hall, where one request for memory may be refused.
+// Returns a hall; one allocation may fail.
 fn hall(alloc: Global) -> Result<NewHall, AllocError> {
     match NewHall::open(alloc, 16) {
         Ok(hall) => Ok(hall),
@@ -231,8 +232,8 @@ fn hall(alloc: Global) -> Result<NewHall, AllocError> {
     }
 }
 
-// A look for which memory ran out loses no line and tells none twice. The gate runs this once for each request for
-// memory, and refuses that one.
+// A look for which an allocation failed loses no line and repeats none. The gate runs this test once for each
+// allocation, and makes that one fail.
 #[test]
 fn each_line_is_told_once(rt: HostRuntime) -> Result<(), Fail> {
     let hall = hall(rt.alloc())?;
@@ -240,7 +241,7 @@ fn each_line_is_told_once(rt: HostRuntime) -> Result<(), Fail> {
     Ok(())
 }
 
-// What the desk of one user replies and answers to the lines that act and those that ask.
+// The replies and answers of the single-user desk to lines that act and lines that ask.
 const SOLO: &str = "
 act @dig north|south to \"Library\" => dug room #2, exit #3, exit back #4
 act route to #2 => question
@@ -263,7 +264,7 @@ fn push_reply(reply: &Result<Reply, Fault>, out: &mut String) -> Result<(), Allo
     }
 }
 
-// Appends what a line that acts is replied.
+// Appends the reply to a line that acts.
 fn push_acted<R: AllocGlobal>(
     rt: &R,
     solo: &mut Solo,
@@ -273,7 +274,7 @@ fn push_acted<R: AllocGlobal>(
     push_reply(&act_alone(rt, solo, line), out)
 }
 
-// Appends what a line that asks is answered.
+// Appends the answer to a line that asks.
 fn push_asked<R: Threads + Wait + AllocGlobal + Sync>(
     rt: &R,
     alloc: Global,
@@ -285,7 +286,7 @@ fn push_asked<R: Threads + Wait + AllocGlobal + Sync>(
     push_text(alloc, solo.ask(rt, &said)?.text.as_str(), out)
 }
 
-// Sees that a row is answered as it says.
+// Checks a row.
 fn check_solo<R: Threads + Wait + AllocGlobal + Sync + Abort>(
     rt: &R,
     alloc: Global,
@@ -314,12 +315,12 @@ fn the_desk_of_one_user(rt: HostRuntime) -> Result<(), Fail> {
     Ok(())
 }
 
-// A script, and what it writes.
+// The input of a script.
 const LINES: &[u8] = b"@dig north|south to \"Library\"\nroute to #2\n";
 
 const WRITTEN: &str = "[1] dug room #2, exit #3, exit back #4;[1] route #0 to #2 cost 1 by #3;";
 
-// What a script writes.
+// Returns the output of a script.
 fn script_text<R: Threads + Wait + AllocGlobal + Sync>(
     rt: &R,
     alloc: Global,

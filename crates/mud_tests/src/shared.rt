@@ -1,4 +1,4 @@
-//! A row of entries, the passes that know it and the replicas that follow it, by their own calls.
+//! A row of entries, the passes that know it and the replicas that follow it, through their own calls.
 
 ghost use Rattle.std.specs.Prelude.{◌≡◌};
 
@@ -10,7 +10,7 @@ use std::boxed::Box;
 use std::process::Abort;
 use std::test::Fail;
 
-// Whether an entry is this change of desk 1's.
+// Returns whether an entry is this change of desk 1.
 fn is_so(alloc: Global, entry: &Entry, change: &str) -> bool {
     let mut line = String::new(alloc);
     match write_entry(alloc, 1, entry, &mut line) {
@@ -19,7 +19,7 @@ fn is_so(alloc: Global, entry: &Entry, change: &str) -> bool {
     }
 }
 
-// What comes of an entry that is published; where it comes back as it was, why.
+// Returns the result of publishing an entry, or the reason if it came back unchanged.
 fn outcome(
     alloc: Global,
     row: &Row,
@@ -36,7 +36,7 @@ fn outcome(
     }
 }
 
-// Why an entry was refused, if it came back as it was.
+// Returns the reason why an entry was refused, if it came back unchanged.
 fn refusal_of(is_so: bool, fault: RowFault) -> &'static str {
     match (is_so, fault) {
         (false, _) => "changed",
@@ -45,7 +45,7 @@ fn refusal_of(is_so: bool, fault: RowFault) -> &'static str {
     }
 }
 
-// Sees what comes of a change that is published.
+// Checks the result of publishing a change.
 fn publish(
     rt: &impl Abort,
     alloc: Global,
@@ -62,7 +62,7 @@ fn publish(
     Ok(())
 }
 
-// Sees that a pass comes to this change next.
+// Checks that this change is the next one of a pass.
 fn follow(rt: &impl Abort, alloc: Global, row: &Row, pass: &mut Pass, change: &str)
     requires { pass.old.row ≡ row.now }
     ensures { pass.new.row ≡ row.now }
@@ -73,7 +73,7 @@ fn follow(rt: &impl Abort, alloc: Global, row: &Row, pass: &mut Pass, change: &s
     }
 }
 
-// Sees how an entry comes back where another was there first, and where all two cells are known.
+// Checks that an entry comes back if another one was first, and if both cells are known.
 fn share(
     rt: &impl Abort,
     alloc: Global,
@@ -96,7 +96,7 @@ fn share(
     Ok(())
 }
 
-// Two passes of a row, of which the second is a copy.
+// Makes two passes of a row, the second one a copy of the first.
 fn passes(rt: &impl Abort, alloc: Global, row: &Row) -> Result<u32, ChronFault> {
     let mut first = row.pass(alloc)?;
     let mut second = first.again(alloc)?;
@@ -111,7 +111,7 @@ fn two_passes_of_a_row(rt: HostRuntime) -> Result<(), Fail> {
     Ok(())
 }
 
-// A replica publishes a change, and does not take it in.
+// Makes a replica publish a change without applying it.
 fn say(alloc: Global, row: &Row, replica: &mut Replica, change: &str) -> Result<(), ChronFault>
     requires { replica.old.row ≡ row.now }
     ensures { replica.new.row ≡ row.now }
@@ -121,7 +121,7 @@ fn say(alloc: Global, row: &Row, replica: &mut Replica, change: &str) -> Result<
     Ok(())
 }
 
-// Sees that one replica sees what another publishes, and that this one goes on by a step.
+// Checks that one replica sees the entry that another publishes, and that the latter continues by a step.
 fn see(
     rt: &impl Abort,
     alloc: Global,
@@ -140,7 +140,7 @@ fn see(
     Ok(())
 }
 
-// Sees that two new replicas of a row see what the other publishes.
+// Checks that two new replicas of a row see each other's entries.
 fn see_in(rt: &impl Abort, alloc: Global, row: &Row) -> Result<(), ChronFault> {
     let mut writer = Replica::new(alloc, row)?;
     let mut reader = Replica::new(alloc, row)?;
@@ -152,7 +152,7 @@ fn a_replica_sees_what_another_published(rt: HostRuntime) -> Result<(), Fail> {
     Ok(see_in(&rt, rt.alloc(), &Row::new(rt.alloc(), 4)?)?)
 }
 
-// Sees that a replica that knows three entries takes them in, and then nothing new.
+// Checks that a replica that knows three entries applies them, and then nothing new.
 fn catch_up(rt: &impl Abort, row: &Row, replica: &mut Replica)
     requires { replica.old.row ≡ row.now }
 {
@@ -161,7 +161,7 @@ fn catch_up(rt: &impl Abort, row: &Row, replica: &mut Replica)
     assert!(rt; replica.at() == 3 && replica.known() == 3);
 }
 
-// The wizard says three things.
+// Makes the wizard say three things.
 fn say_three(alloc: Global, row: &Row, replica: &mut Replica) -> Result<(), ChronFault>
     requires { replica.old.row ≡ row.now }
     ensures { replica.new.row ≡ row.now }
@@ -171,7 +171,7 @@ fn say_three(alloc: Global, row: &Row, replica: &mut Replica) -> Result<(), Chro
     say(alloc, row, replica, "say #1 c")
 }
 
-// A replica takes in three says.
+// Makes a replica apply three says.
 fn says(rt: &impl Abort, alloc: Global) -> Result<(), ChronFault> {
     let row = Row::new(alloc, 4)?;
     let mut replica = Replica::new(alloc, &row)?;
@@ -180,8 +180,8 @@ fn says(rt: &impl Abort, alloc: Global) -> Result<(), ChronFault> {
     Ok(())
 }
 
-// Says change no world, so that no memory is wanted to take them in. The gate runs this once for each request for
-// memory, and refuses that one.
+// A say does not change the world, so applying it does not allocate. The gate runs this test once for each allocation,
+// and makes that one fail.
 #[test]
 fn says_are_taken_in_without_memory(rt: HostRuntime) -> Result<(), Fail> {
     if says(&rt, rt.alloc()).is_err() {

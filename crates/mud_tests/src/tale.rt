@@ -1,5 +1,5 @@
-//! Tales: lines of the wizard and of others, each decided, tried and applied by the calls themselves, and the
-//! journeys that are asked for on the way.
+//! Tales: lines of the wizard and of others, each decided, checked and applied through the calls themselves, with
+//! journeys in between.
 
 ghost use Rattle.std.specs.Prelude.{IfOk, IsTrue, Some};
 ghost use Rattle.mud_world.specs.State.{is_player};
@@ -20,8 +20,8 @@ use std::sync::Wait;
 use std::test::Fail;
 use std::thread::Threads;
 
-// Rows `PLAYER LINE => ANSWER`: who types the line, and what is answered, its lines joined by " / ". After a row
-// `PLAYER>OTHER LINE => HEARD` the other player has heard this of the change.
+// Rows `PLAYER LINE => ANSWER`: the player, the line, and the answer, its lines joined by " / ". After it a row
+// `PLAYER>OTHER LINE => HEARD` has the notice of the change to the other player.
 const DOORS: &str = "
 1 @dig north|south to \"Library\" => dug room #2, exit #3, exit back #4
 1 route to #2 => route #0 to #2 cost 1 by #3
@@ -35,7 +35,7 @@ const DOORS: &str = "
 1 route to #2 => route #0 to #2 no way
 ";
 
-// A dear exit, and a way round it of six exits, the last of which lets only the wizard pass.
+// An expensive exit, and a detour of six exits; the last one lets only the wizard pass.
 const WAY_ROUND: &str = "
 1 @dig far to \"T\" => dug room #2, exit #3
 1 @cost far is 10000 => cost of #3 is 10000
@@ -57,7 +57,7 @@ const WAY_ROUND: &str = "
 1 @cost far is 10001 => That cost is not allowed.
 ";
 
-// Two ways of one cost lead to #6, of which the one whose last exit is lower is told.
+// Two ways of equal cost lead to #6. The answer is the one with the lower last exit.
 const TWO_WAYS: &str = "
 1 @dig a to \"A\" => dug room #2, exit #3
 1 @dig b to \"B\" => dug room #4, exit #5
@@ -72,7 +72,7 @@ const TWO_WAYS: &str = "
 1 route to #6 => route #0 to #6 cost 2 by #5 #7
 ";
 
-// A meeting is in the room of least greatest cost, and of several in the lowest.
+// A meeting is in the room with the least greatest cost, and of several in the lowest one.
 const MEETINGS: &str = "
 1 @dig a to \"A\" => dug room #2, exit #3
 1 @dig b to \"B\" => dug room #4, exit #5
@@ -95,14 +95,14 @@ const MEETINGS: &str = "
 1 meet me, me => That party is not allowed.
 ";
 
-// Who answers about journeys: the caller's thread alone, or N workers.
+// Answers journeys: on the caller's thread, or with N workers.
 #[derive(Clone, Copy, Drop)]
 enum Guide {
     Alone,
     Workers(usize),
 }
 
-// This many workers, who pass an open gate.
+// Returns this many workers, who pass an open gate.
 fn crew<R>(rt: &R, count: usize) -> Workers<'_, R, OpenGate> {
     Workers {
         rt,
@@ -111,7 +111,7 @@ fn crew<R>(rt: &R, count: usize) -> Workers<'_, R, OpenGate> {
     }
 }
 
-// The answer to a journey, the version being 0: no answer's text has it.
+// Returns the answer to a journey at version 0; the text of an answer does not contain its version.
 fn guide_by<R: Threads + Wait + Sync>(
     rt: &R,
     alloc: Global,
@@ -135,7 +135,7 @@ fn guide_by<R: Threads + Wait + Sync>(
     }
 }
 
-// What a change is answered.
+// Appends the reply to a change.
 fn push_reply(
     alloc: Global,
     world: &World,
@@ -145,7 +145,7 @@ fn push_reply(
     out.push_str(reply_text(alloc, world, change)?.as_str())
 }
 
-// What another player hears of it.
+// Appends the notice of it to another player.
 fn push_heard(
     alloc: Global,
     world: &World,
@@ -159,7 +159,7 @@ fn push_heard(
     }
 }
 
-// What a change is answered, or what another player hears of it.
+// Appends the reply to a change, or the notice of it to another player.
 fn push_change(
     alloc: Global,
     world: &World,
@@ -185,7 +185,7 @@ fn make(world: &mut World, change: &Change, out: &mut String) -> Result<(), Allo
     }
 }
 
-// What a player is shown.
+// Appends the answer to a view of a player.
 fn push_view(
     alloc: Global,
     world: &World,
@@ -196,7 +196,7 @@ fn push_view(
     push_text(alloc, show(alloc, world, Some(player), view)?.as_str(), out)
 }
 
-// What the guide tells of a journey.
+// Appends the guide's answer to a journey.
 fn push_journey<R: Threads + Wait + Sync>(
     rt: &R,
     alloc: Global,
@@ -213,7 +213,7 @@ fn push_journey<R: Threads + Wait + Sync>(
     push_text(alloc, answer.text.as_str(), out)
 }
 
-// The answer to a question; who asks is a player of the world.
+// Appends the answer to a question of a player of the world.
 fn push_answer<R: Threads + Wait + Sync>(
     rt: &R,
     alloc: Global,
@@ -233,14 +233,14 @@ fn push_answer<R: Threads + Wait + Sync>(
     }
 }
 
-// What a line is decided to be.
+// Returns the verdict on a line.
 fn decide_line(alloc: Global, world: &World, player: u32, line: &str) -> Result<Verdict, AllocError>
     ensures { IfOk result (IsLawful world.now (Some player)) }
 {
     decide(alloc, world, Some(player), &parse(alloc, line)?)
 }
 
-// A world, in which one thing comes of the other.
+// A world that the rows change one after another.
 #[derive(Drop)]
 struct Tale {
     alloc: Global,
@@ -249,7 +249,7 @@ struct Tale {
 }
 
 impl Tale {
-    // Does what a line of a player's was decided to be.
+    // Executes the verdict on a player's line.
     fn tell<R: Threads + Wait + Sync>(
         &mut self,
         rt: &R,
@@ -273,7 +273,7 @@ impl Tale {
         }
     }
 
-    // Does what a line of a player's says.
+    // Executes a player's line.
     fn say<R: Threads + Wait + Sync>(
         &mut self,
         rt: &R,
@@ -290,7 +290,7 @@ impl Tale {
 }
 
 impl Tale {
-    // Does what a row asks.
+    // Executes a row.
     fn answer<R: Threads + Wait + Sync>(
         &mut self,
         rt: &R,
@@ -308,7 +308,7 @@ impl Tale {
     }
 }
 
-// Sees that a row is answered as it says.
+// Checks a row.
 fn check_row<R: Threads + Wait + Sync + Abort>(
     rt: &R,
     tale: &mut Tale,
@@ -323,7 +323,7 @@ fn check_row<R: Threads + Wait + Sync + Abort>(
     Ok(())
 }
 
-// Sees that each row of a tale is answered as it says.
+// Checks each row of a tale.
 fn check_tale<R: Threads + Wait + Sync + Abort>(
     rt: &R,
     alloc: Global,
@@ -343,7 +343,7 @@ fn check_tale<R: Threads + Wait + Sync + Abort>(
     Ok(())
 }
 
-// Sees that all tales are answered as they say.
+// Checks all tales.
 fn check_tales<R: Threads + Wait + Sync + Abort>(
     rt: &R,
     alloc: Global,

@@ -1,4 +1,4 @@
-//! Calls that take a text apart or make one: each by its name, on a worked text.
+//! Calls that parse or print a text: each by its name, on a worked text.
 
 use crate::rows::{Answers, check_rows, push_sent, split_word};
 use mud_key::{Key, Miss, Namer, Names, asks, atoms, print, read, resolve};
@@ -9,8 +9,8 @@ use std::convert::AsStr;
 use std::fmt::Write;
 use std::test::Fail;
 
-// The call, the text, and what it is to answer: parts of an answer are joined by " / ". Bytes are written as hex
-// digits, and a `|` cuts them into pieces.
+// The call, the text, and the expected result; " / " joins the parts of a result. Bytes are written as hex digits, and
+// a `|` cuts them into pieces.
 const ROWS: &str = "
 words foo \"bar mumble\" baz\" \"fr\"otz\" bl\"o\"rt => foo / bar mumble / baz frotz / blort
 parse foo \"bar mumble\" baz\" \"fr\"otz => foo / bar mumble baz frotz /  / \"bar mumble\" baz\" \"fr\"otz
@@ -30,8 +30,8 @@ units fff6 => ayt;
 send [1] dug room #2, exit #3, exit back #4 => [1] dug room #2, exit #3, exit back #4;
 ";
 
-// Who types the keys of the rows. By the length of their texts he tells the brass key #4 and the chest #5 from himself,
-// who is #1.
+// The player who types the keys of the rows. By the length of their texts it distinguishes the brass key #4, the chest
+// #5 and the player #1.
 #[derive(Drop)]
 struct Wizard;
 
@@ -53,7 +53,7 @@ impl Namer for Wizard {
     }
 }
 
-// The key of a text, its objects named by the wizard.
+// Returns the key of a text, with its objects resolved for the wizard.
 fn key(alloc: Global, text: &str) -> Result<Key, Fail> {
     Ok(resolve(alloc, &read(alloc, text)?, &Wizard)?)
 }
@@ -89,7 +89,7 @@ fn push_asks(alloc: Global, key: &Key, out: &mut String) -> Result<(), AllocErro
     push_numbers(&asks(alloc, key)?, out)
 }
 
-// What a call says of a key.
+// Appends the result of a call for a key.
 fn push_of_key(alloc: Global, call: &str, key: &Key, out: &mut String) -> Result<(), AllocError> {
     match call {
         "key" => push_printed(alloc, key, out),
@@ -133,7 +133,7 @@ fn push_units(alloc: Global, units: &[Unit], out: &mut String) -> Result<(), All
     Ok(())
 }
 
-// Feeds the bytes of the pieces, one after the other.
+// Feeds the bytes of the pieces, one piece after another.
 fn feed_pieces(
     alloc: Global,
     pieces: &str,
@@ -152,14 +152,14 @@ fn push_fed(alloc: Global, pieces: &str, out: &mut String) -> Result<(), Fail> {
     Ok(push_units(alloc, &units, out)?)
 }
 
-// A line as it is sent.
+// Appends a line as it is sent.
 fn push_written(alloc: Global, text: &str, out: &mut String) -> Result<(), Fail> {
     let mut bytes = Vec::new(alloc);
     write_line(text, &mut bytes)?;
     Ok(push_sent(alloc, &bytes, out)?)
 }
 
-// Who makes the calls of the rows.
+// Makes the calls of the rows.
 #[derive(Drop)]
 struct Calls {
     alloc: Global,

@@ -1,4 +1,4 @@
-//! Several workers: that they work at once, which no contract says, and what they find.
+//! Several workers: they work at the same time, which no contract states, and find the labels.
 
 ghost use Rattle.std.specs.Prelude.{◌≡◌};
 ghost use Rattle.mud_roads.specs.Passable.{IsTraveller};
@@ -23,7 +23,7 @@ use std::sync::atomic::{AtomicU64, Ordering};
 use std::test::Fail;
 use std::thread::Threads;
 
-// Two ways of one cost lead from #0 to #6, of which the one whose last exit is lower is told.
+// Two ways of equal cost lead from #0 to #6. The answer is the one with the lower last exit.
 const TWO_WAYS: &str = "mud history 2
 1 1 dig #1 new \"A\" out \"a\"
 2 1 dig #1 new \"B\" out \"b\"
@@ -38,14 +38,14 @@ const TWO_WAYS: &str = "mud history 2
 end 10
 ";
 
-// Holds the first room after #0 until another room has passed, or for ten million turns. Refused are work on the
-// caller's thread only, workers that take turns at the gate, and a search that passes no gate.
+// A gate that holds the first room after #0 until another room has passed, or for ten million turns. Rejects work on
+// the caller's thread only, workers that take turns at the gate, and a search that passes no gate.
 #[derive(Drop)]
 struct Barrier {
     passed: AtomicU64,
     late: AtomicU64,
-    // How often each worker passed, in a byte each, and how often one did that the search hasn't, or for a member that
-    // it hasn't.
+    // The number of passes of each worker, in a byte each, and the number of passes by a worker or for a member outside
+    // the search.
     by_worker: AtomicU64,
     strays: AtomicU64,
 }
@@ -60,7 +60,7 @@ impl Barrier {
         }
     }
 
-    // How many workers passed.
+    // Returns the number of workers that passed.
     fn workers(&self) -> usize {
         let by_worker = self.by_worker.load(Ordering::SeqCst);
         [0, 8, 16, 24, 32, 40, 48, 56]
@@ -69,7 +69,7 @@ impl Barrier {
             .count()
     }
 
-    // Whether at least two rooms passed, by two workers, none of them late and none for another member than the one.
+    // Returns whether at least two rooms passed, by two workers, none of them late, and all for the one member.
     fn is_met(&self) -> bool {
         self.passed.load(Ordering::SeqCst) >= 2
             && self.late.load(Ordering::SeqCst) == 0
@@ -77,7 +77,7 @@ impl Barrier {
             && self.workers() >= 2
     }
 
-    // Whether nobody passed.
+    // Returns whether no worker passed.
     fn is_untouched(&self) -> bool {
         self.workers() == 0 && self.strays.load(Ordering::SeqCst) == 0
     }
@@ -103,7 +103,7 @@ impl Gate for Barrier {
     }
 }
 
-// The labels of the wizard's rooms that workers find.
+// Returns the labels of the wizard's rooms that workers find.
 fn wizards_labels<R: Threads + Wait + AllocGlobal + Sync + Abort>(
     rt: &R,
     alloc: Global,
@@ -116,7 +116,7 @@ fn wizards_labels<R: Threads + Wait + AllocGlobal + Sync + Abort>(
     labels(rt, alloc, world, slice::from_ref(&wizard), workers, gate)
 }
 
-// The labels that workers find, as a text.
+// Returns the labels that workers find, as a text.
 fn text_by<R: Threads + Wait + AllocGlobal + Sync + Abort>(
     rt: &R,
     alloc: Global,
@@ -127,7 +127,7 @@ fn text_by<R: Threads + Wait + AllocGlobal + Sync + Abort>(
     text_of(alloc, &wizards_labels(rt, alloc, world, workers, gate)?)
 }
 
-// The labels that workers find in the world of a history, as a text.
+// Returns the labels that workers find in the world of a history, as a text.
 fn find_labels<R: Threads + Wait + AllocGlobal + Sync + Abort>(
     rt: &R,
     alloc: Global,
@@ -138,7 +138,7 @@ fn find_labels<R: Threads + Wait + AllocGlobal + Sync + Abort>(
     Ok(text_by(rt, alloc, &world(alloc, history)?, workers, gate)?)
 }
 
-// Sees which labels workers find, and that they work at once, if there are several.
+// Checks the labels that workers find, and that several workers work at the same time.
 fn check_labels<R: Threads + Wait + AllocGlobal + Sync + Abort>(
     rt: &R,
     alloc: Global,
@@ -158,7 +158,7 @@ fn check_labels<R: Threads + Wait + AllocGlobal + Sync + Abort>(
     Ok(())
 }
 
-// What labels the rooms of two ways have.
+// The labels of the rooms of two ways.
 const OF_TWO_WAYS: &str = "#0:0/0 #2:1/1 #4:1/1 #6:2/2 ";
 
 #[test]
@@ -170,8 +170,8 @@ fn workers_work_at_once(rt: HostRuntime) -> Result<(), Fail> {
     Ok(())
 }
 
-// Eight workers find the labels, or run out of memory. The gate runs this once for each request for memory, and refuses
-// that one.
+// Eight workers find the labels, or run out of memory. The gate runs this test once for each allocation, and makes that
+// one fail.
 #[test]
 fn eight_workers_may_run_out_of_memory(rt: HostRuntime) -> Result<(), Fail> {
     let alloc = rt.alloc();
@@ -183,7 +183,7 @@ fn eight_workers_may_run_out_of_memory(rt: HostRuntime) -> Result<(), Fail> {
     Ok(())
 }
 
-// The labels that the caller's thread finds.
+// Returns the labels that the caller's thread finds.
 fn text_alone(alloc: Global, world: &World, traveller: &Traveller) -> Result<String, AllocError>
     requires { IsTraveller world.now traveller.now }
 {
@@ -193,14 +193,14 @@ fn text_alone(alloc: Global, world: &World, traveller: &Traveller) -> Result<Str
     )
 }
 
-// How many exits are open to a traveller that leave a room.
+// Returns the number of a room's exits that are open to a traveller.
 fn ways(alloc: Global, world: &World, traveller: &Traveller, room: u32) -> Result<usize, AllocError>
     requires { IsTraveller world.now traveller.now }
 {
     Ok(traveller.leave(alloc, world, room)?.len())
 }
 
-// The labels that the caller's thread finds for the wizard, who has two ways to leave the hall.
+// Returns the labels that the caller's thread finds for the wizard, who can leave the hall by two exits.
 fn found_alone(rt: &impl Abort, alloc: Global, world: &World) -> Result<String, AllocError> {
     assert!(rt; world.is_player(1));
     let wizard = Traveller::of(alloc, world, 1)?;
@@ -208,7 +208,7 @@ fn found_alone(rt: &impl Abort, alloc: Global, world: &World) -> Result<String, 
     text_alone(alloc, world, &wizard)
 }
 
-// What labels the rooms have where the way round is cheaper.
+// The labels of the rooms if the detour is cheaper.
 const OF_WAY_ROUND: &str = "#0:0/0 #2:6/6 #4:1/1 #6:2/2 #8:3/3 #10:4/4 #12:5/5 ";
 
 #[test]
@@ -218,7 +218,7 @@ fn labels_by_one_thread(rt: HostRuntime) -> Result<(), Fail> {
     Ok(())
 }
 
-// What asks for the way to a room.
+// Returns the question for the way to a room.
 fn question(room: u32) -> &'static str {
     match room {
         7 => "route to #7",
@@ -226,7 +226,7 @@ fn question(room: u32) -> &'static str {
     }
 }
 
-// What a new desk of the wizard's is answered by workers who look for a way.
+// Returns the answer to a new desk of the wizard, computed by workers.
 fn ask_workers<J: HallName, R: Threads + Wait + AllocGlobal + Sync>(
     rt: &R,
     hall: &Hall<J>,
@@ -240,7 +240,7 @@ fn ask_workers<J: HallName, R: Threads + Wait + AllocGlobal + Sync>(
     Ok(desk.ask_with(rt, hall, &said, workers, gate)?.text)
 }
 
-// What a new desk of a new hall is answered by workers who look for a way.
+// Returns the answer to a new desk of a new hall, computed by workers.
 fn asked_in<J: HallName, R: Threads + Wait + AllocGlobal + Sync + Abort>(
     rt: &R,
     hall: NewHall,
@@ -255,8 +255,8 @@ fn asked_in<J: HallName, R: Threads + Wait + AllocGlobal + Sync + Abort>(
     ask_workers(rt, &hall, room, workers, gate)
 }
 
-// Sees what a desk of a hall that goes on from a history answers by workers, and that these work at once, if there are
-// several.
+// Checks the answer to a desk of a hall that continues a history, computed by workers, and that several workers work at
+// the same time.
 fn check_desk<R: Threads + Wait + AllocGlobal + Sync + Abort>(
     rt: &R,
     alloc: Global,
@@ -275,7 +275,7 @@ fn check_desk<R: Threads + Wait + AllocGlobal + Sync + Abort>(
     Ok(())
 }
 
-// What is answered in the crossing and where there are two ways.
+// The answers in the crossing, and with two ways.
 const CROSSED: &str = "route #0 to #7 cost 8 by #5 #6 #8";
 
 const LOWER: &str = "route #0 to #6 cost 2 by #5 #7";

@@ -1,4 +1,4 @@
-//! Worlds: what refuses a change that no line can ask for, what is carried, and a copy.
+//! Worlds: the refusals of changes that no line can ask for, a holding, and a copy.
 
 use crate::rows::{Answers, check_rows};
 use crate::village::{entry, world};
@@ -8,9 +8,9 @@ use mud_world::{Change, Holding, World};
 use std::alloc::{AllocError, Global};
 use std::test::Fail;
 
-// The hall #0 with the wizard #1, who carries the box #5 with the coin #6 in it, and with Bob #7,
-// who carries the hat #8. From the hall the exit #3 leads to the yard #2, and #4 back. Nothing
-// leads to the cellar #9. The next number is 10.
+// The hall #0 with the wizard #1, who carries the box #5 with the coin #6 in it, and with Bob #7, who carries the hat
+// #8. The exit #3 leads from the hall to the yard #2, and #4 back. No exit leads to the cellar #9. The next number is
+// 10.
 const VILLAGE: &str = "mud history 2
 1 1 dig #1 new \"Yard\" out \"north\" back \"south\"
 2 1 make #1 \"box\"
@@ -22,8 +22,8 @@ const VILLAGE: &str = "mud history 2
 end 7
 ";
 
-// What refuses what no line asks for: each kind of change by an actor who is none, a missing one and a
-// thing; and changes of objects that are not there, or not of that kind.
+// The refusals of changes that no line asks for. Each kind of change is made by an actor that is not a player, is
+// missing or is a thing. Other changes are of objects that do not exist or have the wrong kind.
 const ROWS: &str = "
 dig #99 old #9 out \"down\" => There is no such thing.
 dig #5 old #9 out \"down\" => That is the wrong kind of thing.
@@ -77,7 +77,7 @@ move #1 #6 #1 => legal
 move #7 #8 #0 => legal
 ";
 
-// What is said of a change that is refused.
+// Returns the refusal of a change as a word.
 fn refusal_word(world: &World, change: &Change) -> &'static str {
     match world.legal(change) {
         Ok(()) => "legal",
@@ -85,12 +85,12 @@ fn refusal_word(world: &World, change: &Change) -> &'static str {
     }
 }
 
-// What is said of a change, which is given as it is written, where it is refused.
+// Returns the refusal of a change, which is given as its text, as a word.
 fn refusal_of(alloc: Global, world: &World, change: &str) -> Result<&'static str, ChronFault> {
     Ok(refusal_word(world, entry(alloc, change)?.change()))
 }
 
-// A world that tells what refuses changes.
+// A world that answers with the refusals of changes.
 #[derive(Drop)]
 struct Village {
     alloc: Global,
@@ -110,7 +110,8 @@ fn what_refuses_changes(rt: HostRuntime) -> Result<(), Fail> {
     check_rows(&rt, alloc, ROWS, &mut Village { alloc, world })
 }
 
-// The key #4 lies in the bag #5, and that in the box #6, which the wizard carries. The way to the vault #2 wants it.
+// The key #4 lies in the bag #5, and the bag in the box #6, which the wizard carries. The exit to the vault #2 needs
+// the key.
 const BOX: &str = "mud history 2
 1 1 dig #1 new \"Vault\" out \"north\"
 2 1 make #1 \"key\"
@@ -122,7 +123,7 @@ const BOX: &str = "mud history 2
 end 7
 ";
 
-// The history of `BOX`, at whose end the box is dropped.
+// The history of `BOX`, and at its end the box is dropped.
 const DROPPED: &str = "mud history 2
 1 1 dig #1 new \"Vault\" out \"north\"
 2 1 make #1 \"key\"
@@ -135,12 +136,12 @@ const DROPPED: &str = "mud history 2
 end 8
 ";
 
-// Whether the key is held, and the exit is unlocked.
+// Returns whether the key is held, and the exit is unlocked.
 fn is_open(world: &World, held: &Holding) -> bool {
     held.has(4) && world.unlocked(held, 3)
 }
 
-// Whether that is so of the wizard.
+// Returns whether that is so for the wizard.
 fn has_way(world: &World) -> Result<bool, AllocError> {
     Ok(is_open(world, &world.carried(1)?))
 }
@@ -155,7 +156,7 @@ fn what_is_carried(rt: HostRuntime) -> Result<(), Fail> {
     Ok(())
 }
 
-// The wizard made seven things.
+// The wizard has made seven things.
 const SEVEN: &str = "mud history 2
 1 1 make #1 \"a\"
 2 1 make #1 \"b\"
@@ -167,7 +168,7 @@ const SEVEN: &str = "mud history 2
 end 7
 ";
 
-// The next number of a copy.
+// Returns the next number of a copy.
 fn next_of_copy(world: &World) -> Result<u32, AllocError> {
     Ok(world.copy()?.next_number())
 }

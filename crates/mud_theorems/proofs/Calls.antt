@@ -1,4 +1,4 @@
--- What a call does to the list of its desk's calls, and calls one after the other.
+-- The effect of a call on the list of its desk's calls, and calls one after the other.
 use Rattle.std.proofs.Common.{◌≡◌, ℕ, ◌+◌, ◌≤◌, ◌<◌, ◌⊎◌, inl, inr, List, [], ◌∷◌, ◌++◌, length}
 use Rattle.std.proofs.Common.{None, Some, refl, sym, ◌∙◌, ap, subst, arith, append_assoc, append-nil}
 use Rattle.std.proofs.lemmas.List.{length-append}
@@ -41,7 +41,7 @@ pub record Stored (old : DeskState) (call : Call) (new : DeskState) : Type 0 whe
   pub long : length new.seen ≡ version
   pub more : length old.seen < version
 
--- the number, what was seen and the calls stay
+-- the number, the seen entries and the calls stay
 record Stays (old new : DeskState) : Type 0 where
   number : new.number ≡ old.number
   seen : new.seen ≡ old.seen
@@ -65,7 +65,7 @@ stays-quiet old new call s still =
 takes-on : (old new : DeskState) → TakesIn old new → IsPrefix old.seen new.seen
 takes-on old new t = (t.entries, sym (ap (λ (d : DeskState). d.seen) t.is))
 
--- ---- what a line that acts stores
+-- ---- the entries that a line that acts stores
 
 abbrev IsRefusing : Reply → Type 0
 IsRefusing (Accepted v text) = ⊥
@@ -97,7 +97,7 @@ comes-stays capacity s v reply new r c = go v (plainly capacity s v reply new c)
     go (verdict.Refused f) (inr h) = same-stays s new h.1
     go (verdict.Ask q) (inr h) = same-stays s new h.1
 
--- the desk took entries in, and then stored none
+-- the desk applied entries, and then stored none
 took-quiet : (old ready new : DeskState) (call : Call) → TakesIn old ready → Stays ready new
     → ((h : List Entry) → Grows call h new h) → Quiet old call new
 took-quiet old ready new call t s still = record {
@@ -107,7 +107,7 @@ took-quiet old ready new call t s still = record {
   still = still;
 }
 
--- and where it stored one
+-- and if it stored one
 took-stored : (capacity : ℕ) (old ready new : DeskState) (line : List ℕ) (v : ℕ) (text : List ℕ) → TakesIn old ready
     → WasChange capacity ready (parse_of line) (Accepted v text) new → Stored old (Act line (Accepted v text)) new
 took-stored capacity old ready new line v text t c =
@@ -179,7 +179,7 @@ performed capacity old (Told lines) new hands = inl (stays-quiet old new (Told l
 
 -- ---- calls one after the other
 
--- the number stays, and what was seen and the calls go on
+-- the number stays, and the seen entries and the calls grow
 pub record Goes (old new : DeskState) : Type 0 where
   pub number : new.number ≡ old.number
   pub seen : IsPrefix old.seen new.seen
@@ -209,7 +209,7 @@ pub cancel : (xs ys zs : List ℕ) → xs ++ ys ≡ xs ++ zs → ys ≡ zs
 cancel [] ys zs e = e
 cancel (x ∷ xs) ys zs e = let tail : xs ++ ys ≡ xs ++ zs = cc in cancel xs ys zs tail
 
--- what a desk stores first is the first of its calls that are left
+-- the first entry that a desk stores is of the first of its remaining calls
 pub record IsNext (now new : DeskState) (stored version : ℕ) (rest : List ℕ) : Type 0 where
   pub same : stored ≡ version
   pub left : new.calls ≡ now.calls ++ rest

@@ -1,4 +1,4 @@
--- What was typed and sent at a desk, and the transcripts of all.
+-- The input and output at a desk, and the transcripts of all.
 use Rattle.std.proofs.Common.{◌≡◌, ◌⊎◌, inl, inr, ℕ, Bool, true, false, List, [], ◌∷◌, ◌++◌, Some, map}
 use Rattle.std.proofs.Common.{refl, sym, ◌∙◌, ap, subst}
 use Rattle.std.specs.Prelude.{All}
@@ -34,7 +34,7 @@ whole old new was is typed f = go new.has_ended refl
     go true ended = inr (sym f.ended ∙ ended)
     go false ended = inl (f.all ended)
 
--- a session that greeted took in what was typed at a new desk
+-- a session that has greeted plays the input at a new desk
 pub has_played : TurnsAreCalls → (capacity : ℕ) (loaded : List Entry) (old new : SessionState) (was is : DoorState)
     (t : Transcript) → was.capacity ≡ capacity → IsNew loaded was.desk → old.out ≡ greeting
     → Feeds TakesIn [] t.typed.items old new was is → t.sent.items ≡ new.out → HasPlayed capacity loaded is.desk t

@@ -1,11 +1,11 @@
--- Lists of what several jobs gave.
+-- Lists of the results of several jobs.
 use Rattle.std.proofs.Common.{◌≡◌, ℕ, zero, suc, ◌<◌, List, [], ◌∷◌, ◌++◌, length, map, get_or, Result, Ok, Err}
 use Rattle.std.proofs.Common.{refl, sym, ◌∙◌, ap, arith, subst}
 use Rattle.std.specs.Prelude.{IfOk}
 use Rattle.std.specs.List.{AllZip}
 use Rattle.std.proofs.Math.Logic.{∥∥₁_map, ∥∥₁_elim, ∥∥₁_prop}
 
--- what follows of a result that is no error
+-- a property of a result that is not an error
 pub if-ok : {X E : Type 0} (P Q : X → Type 0) (r : Result X E) → ((x : X) → P x → Q x) → IfOk r P → IfOk r Q
 if-ok P Q (Ok x) follows p = follows x p
 if-ok P Q (Err e) follows p = tt
@@ -14,7 +14,7 @@ pub map-map : {X Y Z : Type 0} (f : Y → Z) (h : X → Y) (xs : List X) → map
 map-map f h [] = refl
 map-map f h (x ∷ xs) = ap (λ (l : List _). f (h x) ∷ l) (map-map f h xs)
 
--- two lists of which each element maps to the same
+-- two lists whose elements map to equal values, pair by pair
 pub maps_alike : {P C : Type 0} (f : C → List ℕ) (h : P → List ℕ) (players : List P) (all : List C)
     → length all ≡ length players
     → ((i : ℕ) (p : P) (c : C) → i < length players → f (get_or all i c) ≡ h (get_or players i p))

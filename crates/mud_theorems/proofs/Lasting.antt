@@ -1,4 +1,4 @@
--- What was told lasts.
+-- Replies and answers outlive a crash.
 use Rattle.std.proofs.Common.{◌≡◌, ◌≤◌, ℕ, List, [], ◌∷◌, ◌++◌, length, take, drop, Option, Some, None}
 use Rattle.std.proofs.Common.{inl, inr, refl, sym, ◌∙◌, ap, arith, subst, append_assoc}
 use Rattle.std.specs.Prelude.{IfSome}
@@ -32,7 +32,7 @@ use Rattle.mud_theorems.specs.Laws.{WhatWasToldLasts}
 use Rattle.mud_hall.proofs.Coming.{accepted_is}
 use Rattle.mud_theorems.proofs.Merging.{at-here, run-append}
 
--- the laws below on which this stands
+-- the laws below that this uses
 pub record Below : Type 0 where
   pub guide : (capacity : ℕ) (loaded : List Entry) (begin : Hall) → Begins capacity loaded begin
       → (steps : List HallStep) (hall : Hall) → IsRun capacity loaded begin steps hall
@@ -47,7 +47,7 @@ pub record Below : Type 0 where
 some-inj : {A : Type 0} (x y : A) → Some x ≡ Some y → x ≡ y
 some-inj x y e = cc
 
--- ---- beginnings
+-- ---- prefixes
 
 trans : (a b c : List Entry) → IsPrefix a b → IsPrefix b c → IsPrefix a c
 trans a b c x y = (x.0 ++ y.0, sym (append_assoc a x.0 y.0) ∙ (ap (λ (h : List Entry). h ++ y.0) x.1 ∙ y.1))
@@ -58,15 +58,15 @@ long f h on = omega (arith, ap length on.1, length-append f on.0)
 front : (v : ℕ) (h : List Entry) → IsPrefix (take v h) h
 front v h = (drop v h, take-append-drop v h)
 
--- the first entries of a beginning are the first entries
+-- the first entries of a prefix are the first entries
 fronts : (f h : List Entry) (v : ℕ) → IsPrefix f h → v ≤ length f → take v f ≡ take v h
 fronts f h v on within = sym (take-append-le v f on.0 within) ∙ ap (take v) on.1
 
--- a beginning is the first entries, as many as it has
+-- a prefix is the first entries, as many as it has
 first : (f h : List Entry) → IsPrefix f h → take (length f) h ≡ f
 first f h on = ap (take (length f)) (sym on.1) ∙ take-append_seam f on.0
 
--- ---- a beginning of what can be loaded
+-- ---- a prefix of a history that can be loaded
 
 each-front : (f more : List Entry) → AllByRecursion IsEntry (f ++ more) → AllByRecursion IsEntry f
 each-front [] more is = tt
@@ -128,13 +128,13 @@ certified f None (verdict.Become q) a c is shows right = absurd (none-some c (sy
 
 -- ---- the law
 
--- what a certificate that there may be is accepted with
+-- the histories that accept an optional certificate
 with-it : (f g : List Entry) (cert : Option Certificate) → IsPrefix f g → AreLoadable MOST_ENTRIES g
     → ((c : Certificate) → cert ≡ Some c → IsCertified f (Some c)) → IfSome cert (IsAcceptedWith g)
 with-it f g None on loadable is = tt
 with-it f g (Some c) on loadable is = (is c refl).1 g on loadable
 
--- an answer by the first entries of what was found
+-- an answer by the first entries of the history found
 still : (got f : List Entry) (player : Option ℕ) (line : List ℕ) (a : Answered) → IsPrefix f got
     → a.version ≡ length f → AreLoadable MOST_ENTRIES got → Shows f player (verdict_on f player (parse_of line)) a
     → IsRight f player (verdict_on f player (parse_of line)) a → StillHolds got player line a
@@ -161,7 +161,7 @@ made capacity loaded old next s v line text (was, is, turns, grows, acts) =
     let seen : is.seen ≡ acts.ready.seen ++ entry ∷ [] = ap (λ (d : DeskState). d.seen) c.stores.3 in
     ap length (sym grows.2) ∙ ap length seen ∙ length-append acts.ready.seen (entry ∷ []) ∙ sym c.stores.1
 
--- what a run found at a call goes on to its end
+-- the history of a run at a call is a prefix of its last one
 after_call : HistoryGoesOn → (capacity : ℕ) (loaded : List Entry) (begin : Hall) → Begins capacity loaded begin
     → (s : ℕ) (call : Call) (next hall : Hall) → WasCalled capacity loaded begin s call next hall
     → IsPrefix next.history hall.history

@@ -70,7 +70,7 @@ same (d ∷ ds) (w ∷ works) e =
     let tail : map (λ (x : View). x.state) ds ≡ map (λ (y : Work). y.desk) works = cc in
     (head, same ds works tail)
 
--- what is true of the desks is true of the works' desks, and the other way round
+-- a property of the desks is one of the works' desks, and the other way round
 pub to_works : (P : DeskState → Type 0) (desks : List View) (works : List Work) → Same desks works
     → All (λ d. P d.state) desks → All (λ w. P w.desk) works
 to_works P [] [] s all = All-nil (λ (w : Work). P w.desk)

@@ -1,4 +1,4 @@
--- What was called at settled desks is one run.
+-- The calls at settled desks are one run.
 use Rattle.std.proofs.Common.{◌≡◌, ◌≢◌, ℕ, zero, suc, ◌+◌, ◌≤◌, ◌<◌, ◌⊎◌, inl, inr}
 use Rattle.std.proofs.Common.{List, [], ◌∷◌, ◌++◌, length, map, drop, get_or, None, Some}
 use Rattle.std.proofs.Common.{refl, sym, ◌∙◌, ap, subst, arith, append_assoc, append-nil, cond, eqb}
@@ -19,9 +19,9 @@ use Rattle.mud_hall.proofs.Notices.{state_eq, notices-none}
 use Rattle.mud_theorems.proofs.Calls.{chained, Quiet, Stored, performed, Goes, goes, IsNext, next}
 use Rattle.mud_theorems.proofs.Calls.{nothing-left, below}
 
--- ---- beginnings of one list
+-- ---- prefixes of one list
 
--- of two beginnings the shorter begins the longer
+-- of two prefixes the shorter is a prefix of the longer
 shorter : (a b h : List Entry) → IsPrefix a h → IsPrefix b h → length a ≤ length b → IsPrefix a b
 shorter [] b h x y le = (b, refl)
 shorter (e ∷ a) [] h x y le = absurd (omega (arith, le))
@@ -38,7 +38,7 @@ none-more : (a : List Entry) (more : List Entry) → length (a ++ more) ≤ leng
 none-more a [] le = refl
 none-more a (e ∷ more) le = absurd (omega (arith, le, length-append a (e ∷ more)))
 
--- two beginnings of one length are one
+-- two prefixes of one length are equal
 alike : (a b h : List Entry) → IsPrefix a h → IsPrefix b h → length a ≡ length b → a ≡ b
 alike a b h x y same =
     let on : IsPrefix a b = shorter a b h x y (omega (arith, same)) in
@@ -88,9 +88,9 @@ part-other n m (call ∷ calls) apart =
     (ne_eqb n m (λ e. apart (sym e)))
     ∙ part-other n m calls apart
 
--- ---- one desk goes on
+-- ---- one desk advances
 
--- desk n makes these calls, and nobody else does anything
+-- desk n makes these calls, and no other desk makes any
 record Advances (capacity : ℕ) (loaded : List Entry) (hall : Hall) (n : ℕ) (calls : List Call) (new : DeskState)
     (history : List Entry) : Type 0 where
   later : Hall
@@ -117,7 +117,7 @@ steps capacity loaded hall n call calls h now new history makes a = record {
   whole = a.whole;
 }
 
--- calls of which none stores anything
+-- calls that store nothing
 quiet : (capacity : ℕ) (loaded : List Entry) (hall : Hall) (n : ℕ) (s : DeskState) (calls : List Call) (d : DeskState)
     → hall.desks n ≡ Some s → PerformsAll capacity s calls d → d.calls ≡ s.calls → IsPrefix d.seen hall.history
     → Advances capacity loaded hall n calls d hall.history
@@ -141,7 +141,7 @@ quiet capacity loaded hall n s (call ∷ calls) d at (now, does, more) none know
         (sym none ∙ sym g.calls.1 ∙ ap (λ (ns : List ℕ). ns ++ g.calls.0) x.calls
         ∙ append_assoc s.calls (x.version ∷ []) g.calls.0))
 
--- desk n goes on up to its next change
+-- desk n advances up to its next change
 record Took (capacity : ℕ) (loaded : List Entry) (hall : Hall) (n : ℕ) (calls : List Call) (d : DeskState)
     (rest : List ℕ) (history : List Entry) : Type 0 where
   done : List Call
@@ -211,7 +211,7 @@ took capacity loaded hall n s (call ∷ calls) d v rest e goal at (now, does, mo
 
 -- ---- all desks
 
--- a desk stands here, and has these calls left, which store what it still has to store
+-- a desk is in this state, and its remaining calls store its remaining entries
 record Stands (capacity : ℕ) (hall : Hall) (es : List Entry) (left : ℕ → List Call) (d : View) : Type 0 where
   now : DeskState
   at : hall.desks d.state.number ≡ Some now
@@ -243,12 +243,12 @@ apart-first d ds apart k x lt = apart 0 (suc k) x (omega arith) (omega (arith, l
 pub apart-more : (d : View) (ds : List View) → AreApart (d ∷ ds) → AreApart ds
 apart-more d ds apart i j x less lt = apart (suc i) (suc j) x (omega (arith, less)) (omega (arith, lt))
 
--- nobody of the others has the number
+-- no other desk has the number
 apart-none : (d : View) (ds : List View) → AreApart (d ∷ ds) → HasNumber ds d.state.number → ⊥
 apart-none d ds apart (k, x, lt, eq, is) =
     apart-first d ds apart k x lt (sym (ap (λ (y : View). y.state.number) eq ∙ is))
 
--- where nothing is left to be stored each desk makes its calls, one desk after the other
+-- if no entry is left each desk makes its calls, one desk after the other
 finish : (capacity : ℕ) (loaded : List Entry) (left : ℕ → List Call) (desks : List View) (hall : Hall)
     → AreApart desks → All (Stands capacity hall [] left) desks
     → All (λ d. IsPrefix d.state.seen hall.history) desks → Ends capacity loaded hall left desks hall.history
@@ -366,7 +366,7 @@ at-place desks apart i j x y one two at same =
     unique desks apart j i y two one (same ∙ sym (ap (λ (d : View). d.state.number) there)) in
     ap (λ k. get_or desks k y) place ∙ there
 
--- for each entry the desk of its number goes on up to it; at last all make the calls that they have left
+-- for each entry the desk of its number advances to it; at the end all make their remaining calls
 runs : (capacity : ℕ) (loaded : List Entry) (desks : List View) (history : List Entry) → AreApart desks
     → All (λ d. IsPrefix d.state.seen history) desks → (es : List Entry) (hall : Hall) (left : ℕ → List Call)
     → All (Stands capacity hall es left) desks → All (λ e. HasNumber desks e.desk) es → hall.history ++ es ≡ history
@@ -479,9 +479,9 @@ runs capacity loaded desks history apart known (e ∷ es) hall left stand named 
       stay = λ m none. r.stay m none ∙ first.goes_on.others m (nobody m none);
     }
 
--- ---- the desks are given
+-- ---- the hall makes the desks
 
--- a hall with k desks, at which nothing was called
+-- a hall with k desks, and no call at them
 record Given (capacity : ℕ) (loaded : List Entry) (k : ℕ) : Type 0 where
   hall : Hall
   steps : List HallStep
@@ -590,14 +590,14 @@ highest-under (d ∷ ds) m all =
     let more : highest ds ≤ m = highest-under ds m (All-tail (λ c. c.state.number ≤ m) d ds all) in
     omega (arith, one, more)
 
--- the desk was a new one of a hall that began with what was loaded, and came to be so by these calls
+-- the desk was a new one of a hall that began with the loaded entries, and these calls brought it to its state
 pub record IsWorkOf (capacity : ℕ) (loaded : List Entry) (calls : List Call) (desk : DeskState) : Type 0 where
   pub first : DeskState
   pub new : IsNew loaded first
   pub does : PerformsAll capacity first calls desk
 
--- One run, by the calls at each number: the part of each desk is that it is given, looks, and makes its calls. At a
--- desk of another number nothing is called.
+-- One run, by the calls at each number: the hall makes each desk, and the desk looks and makes its calls. No call is
+-- made at a desk of another number.
 pub record Merged (capacity : ℕ) (loaded history : List Entry) (desks : List View) (calls : ℕ → List Call)
     : Type 0 where
   pub steps : List HallStep
@@ -614,7 +614,7 @@ kept-number : (capacity : ℕ) (loaded : List Entry) (calls : List Call) (d : De
     → (w : IsWorkOf capacity loaded calls d) → d.number ≡ w.first.number
 kept-number capacity loaded calls d w = (goes capacity w.first calls d w.does).number
 
--- a desk that was given with what was loaded looks, and is the new desk
+-- a desk with the loaded entries looks, and is the new desk
 looks : (capacity : ℕ) (loaded : List Entry) (calls : List Call) (d : DeskState)
     → (w : IsWorkOf capacity loaded calls d) → TakesIn (new_desk d.number loaded) w.first
 looks capacity loaded calls d w =

@@ -18,7 +18,7 @@ record Ends (steps : List HallStep) (hall : Hall) (desk : DeskState) (calls : Li
   ends : hall.desks desk.number ≡ Some desk
   part : steps_of desk.number steps ≡ Desk desk.number ∷ map (At desk.number) (See ∷ calls)
 
--- where a desk of this number is given or not, no other step is one of it
+-- if a desk of this number is made or not, no other step is one of it
 only-given : (n : ℕ) (steps : List HallStep) → (steps ≡ []) ⊎ (steps ≡ Desk n ∷ []) → All (λ step. step ≡ Desk n) steps
 only-given n steps (inl none) =
     subst (λ (xs : List HallStep). All (λ step. step ≡ Desk n) xs) (sym none) (All-nil (λ step. step ≡ Desk n))

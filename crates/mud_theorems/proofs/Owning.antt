@@ -1,4 +1,4 @@
--- An object stays as it is, but for its owner, its own walk and a move of it.
+-- Only its owner, its own walk and a move of it change an object.
 use Rattle.std.proofs.Common.{◌≡◌, ◌≢◌, ◌⊎◌, inl, inr, ℕ, Bool, true, false, List, [], ◌∷◌, Option, Some, None}
 use Rattle.std.proofs.Common.{refl, sym, ◌∙◌, ap, subst, cond, eqb}
 use Rattle.std.specs.Prelude.{IsTrue, not, ◌||◌, nat_eq}
@@ -24,11 +24,11 @@ use Rattle.mud_world.proofs.Editing.{changed_by}
 use Rattle.mud_theorems.specs.Owning.{moves, IsMoved}
 use Rattle.mud_theorems.specs.Laws.{OnlyOwnersChange}
 
--- the law below on which this stands: nothing fails of what is not refused
+-- the law below that this uses: no condition fails for a change that is not refused
 abbrev pub NothingFails : Type 0
 NothingFails = (w : State) (e : Change) → refusal w e ≡ None → (f : Refusal) → fails w e f ≡ false
 
--- what a deed leaves of an object
+-- an object after a deed
 abbrev Leaves : State → ℕ → Deed → ℕ → Record → Type 0
 Leaves w actor deed o r =
     (record_at (deed_result w actor deed) o ≡ Some r) ⊎ IsTrue (owns w actor o)
@@ -36,7 +36,7 @@ Leaves w actor deed o r =
 
 -- ---- records
 
--- the record of object n changes, and that of no other
+-- only the record of object n changes
 changed : (w : State) (n o : ℕ) (f : Record → Record) (r : Record) → record_at w o ≡ Some r
     → ((o ≡ n) × (record_at (with_record_changed w n f) o ≡ Some (f r)))
     ⊎ (record_at (with_record_changed w n f) o ≡ Some r)
@@ -59,7 +59,7 @@ changed w n o f r at = go (cases_eq o n)
         ap (λ (v : State). record_at v o) (changed_by w n f s is)
         ∙ lookup-set_value_other n o apart (f s) w.objects ∙ at))
 
--- the record of object n is gone, and no other
+-- only the record of object n is gone
 gone : (n o : ℕ) (es : List (ℕ × Record)) → o ≢ n
     → lookup (nat_eq o) (remove_entry (nat_eq n) es) ≡ lookup (nat_eq o) es
 gone n o [] apart = refl
@@ -84,7 +84,7 @@ or-right : (a b : Bool) → a || b ≡ false → b ≡ false
 or-right true b e = absurd (cc)
 or-right false b e = e
 
--- what is done to an object of his own
+-- deeds on an object that the actor owns
 by-owner : (w : State) (actor n o : ℕ) (deed : Deed) (f : Record → Record) (r : Record) → record_at w o ≡ Some r
     → not (owns w actor n) ≡ false → deed_result w actor deed ≡ with_record_changed w n f → Leaves w actor deed o r
 by-owner w actor n o deed f r at denied is = go (changed w n o f r at)
@@ -95,7 +95,7 @@ by-owner w actor n o deed f r at denied is = go (changed w n o f r at)
         inr (inl (subst (λ (k : ℕ). owns w actor k ≡ true) (sym here.0) (not-false (owns w actor n) denied)))
     go (inr other) = inl (ap (λ (v : State). record_at v o) is ∙ other)
 
--- what moves
+-- an object that moves
 by-moving : (w : State) (actor n to o : ℕ) (deed : Deed) (r : Record) → record_at w o ≡ Some r
     → (o ≡ n → moves actor deed o ≡ true)
     → deed_result w actor deed ≡ with_record_changed w n (λ s. record s { kind = kind_at to s.kind })

@@ -1,4 +1,4 @@
--- Laws of the definitions: what many callers did, what outlives a crash, and who changes what.
+-- Laws of the definitions: the calls of many desks, the history after a crash, and the changes by owners.
 use Rattle.std.specs.Prelude.{◌≡◌, ◌≤◌, ◌⊎◌, ℕ, List, length, map, take, None, Some, IsTrue, All}
 use Rattle.mud_world.specs.declared.change.Change.{Change}
 use Rattle.mud_world.specs.declared.record.Record.{Record}
@@ -20,8 +20,8 @@ use Rattle.mud_theorems.specs.Runs.{Work, IsWork, AreOneRun}
 use Rattle.mud_theorems.specs.Owning.{moves, IsMoved}
 use Rattle.mud_theorems.specs.Survival.{IsCrashOf, IsBack, WasCalled, StillHolds}
 
--- What was called at the desks of a hall that was settled, by whichever threads, is one run of the hall, and a hall can
--- begin with its history.
+-- The calls of any threads at the desks of a settled hall are one run of the hall, and a hall can begin with its
+-- history.
 abbrev pub ThreadsMakeRuns : Type 0
 ThreadsMakeRuns =
     (capacity : ℕ) (loaded history : List Entry) (desks : List View) (works : List Work)
@@ -29,9 +29,9 @@ ThreadsMakeRuns =
     → All (IsWork capacity loaded) works
     → AreOneRun capacity loaded history works × (AreLoadable capacity loaded → AreLoadable capacity history)
 
--- Whatever a crash leaves of the journal of a hall is read. What is found goes back to some version, at least to the
--- last that was synced: a text that names none after that names none that is not found, each change that was accepted
--- by then is there, and each answer by such a version still holds.
+-- The journal of a hall can be read after any crash. The history found ends at some version, and not before the last
+-- synced one. A text that names no version after the synced one names no version that is not found. Each change that
+-- was accepted by then is there, and each answer by such a version still holds.
 abbrev pub WhatWasToldLasts : Type 0
 WhatWasToldLasts =
     (capacity : ℕ) (loaded : List Entry) (begin : Hall) → Begins capacity loaded begin
@@ -47,8 +47,8 @@ WhatWasToldLasts =
     → WasCalled capacity loaded begin s (Ask line (Some a)) next hall → a.version ≤ length synced
     → next.desks s ≡ Some d → StillHolds got d.player line a))
 
--- A legal change leaves an object as it was, unless its actor owns the object or is #1, or the change moves it. What is
--- moved has another place, and else is as it was.
+-- A legal change leaves an object as it was, unless its actor owns the object or is #1, or the change moves it. A moved
+-- object has another place, and is otherwise as it was.
 abbrev pub OnlyOwnersChange : Type 0
 OnlyOwnersChange =
     (w : State) (e : Change) (o : ℕ) (r : Record) → refusal w e ≡ None → record_at w o ≡ Some r

@@ -12,6 +12,6 @@ moves actor (Walk exit) o = o == actor
 moves actor (Move thing to) o = o == thing
 moves actor deed o = false
 
--- the object has a place, and else its record is still this one
+-- the object has a place, and otherwise its record is still this one
 abbrev pub IsMoved : State → ℕ → Record → Type 0
 IsMoved w o r = (to : ℕ) × (record_at w o ≡ Some (record r { kind = kind_at to r.kind }))

@@ -1,4 +1,4 @@
--- What is found of a history after a crash, and what still holds of it.
+-- The history that is found after a crash, and the answers that still hold in it.
 use Rattle.std.specs.Prelude.{◌≡◌, ◌≤◌, ℕ, List, ◌++◌, length, take, Option, IfSome}
 use mathlib.Core.List.{IsPrefix}
 use Rattle.mud_words.specs.Parse.{parse_of}
@@ -17,15 +17,15 @@ pub record IsCrashOf (history synced : List Entry) (bytes : List ℕ) : Type 0 w
   pub mine : IsPrefix (synced ++ added) history
   pub left : IsLeftOf bytes synced added
 
--- what was found has all that was synced and is a prefix of the history, with which a hall can begin; so each version
--- that was synced has the entries that it had
+-- the history found has all synced entries and is a prefix of the history, and a hall can begin with it; so each synced
+-- version has the entries that it had
 pub record IsBack (capacity : ℕ) (history synced got : List Entry) : Type 0 where
   pub all : IsPrefix synced got
   pub only : IsPrefix got history
   pub loadable : AreLoadable capacity got
   pub same : (v : ℕ) → v ≤ length synced → take v got ≡ take v history
 
--- a run made this call at desk s, was then so, and went on to this hall
+-- a run made this call at desk s, came to the hall `next`, and continued to this hall
 pub record WasCalled (capacity : ℕ) (loaded : List Entry) (begin : Hall) (s : ℕ) (call : Call) (next hall : Hall)
     : Type 0 where
   pub before : List HallStep
@@ -35,8 +35,8 @@ pub record WasCalled (capacity : ℕ) (loaded : List Entry) (begin : Hall) (s : 
   pub after : List HallStep
   pub goes_on : IsRun capacity loaded next after hall
 
--- the answer that the line of a player got is the answer by the same first entries of what was found, and is right of
--- them; its certificate is accepted with what was found, and with each legal history that goes on from that
+-- the answer to a player's line is the answer by as many first entries of the history found, and is right for them. The
+-- checker accepts its certificate with the history found, and with each legal history that continues it
 pub record StillHolds (got : List Entry) (player : Option ℕ) (line : List ℕ) (a : Answered) : Type 0 where
   pub there : a.version ≤ length got
   pub shows : Shows (take a.version got) player (verdict_on (take a.version got) player (parse_of line)) a

@@ -1,4 +1,4 @@
--- What players typed and were sent, as one run of their hall.
+-- The input and output of players, as one run of their hall.
 use Rattle.std.specs.Prelude.{◌≡◌, ℕ, true, ◌⊎◌, List, [], ◌++◌}
 use Rattle.std.specs.List.{AllZip}
 use Rattle.mud_nvt.specs.Units.{units}
@@ -10,8 +10,8 @@ use Rattle.mud_session.specs.Laws.{all_calls}
 use Rattle.mud_theorems.specs.declared.transcript.Transcript.{Transcript}
 use Rattle.mud_theorems.specs.Runs.{Work, AreOneRun}
 
--- all that was typed was played at the desk, or all up to an answered `quit`; the calls of these turns are those of the
--- desk, and what was sent is the greeting and their text
+-- the desk played all input, or all up to an answered `quit`. The calls of these turns are those of the desk, and the
+-- output is the greeting and their text
 pub record IsTranscript (capacity : ℕ) (work : Work) (t : Transcript) : Type 0 where
   pub play : Play TakesIn capacity work.first (units t.typed.items) work.desk
   pub done : (play.left ≡ []) ⊎ (is_over play.turns ≡ true)

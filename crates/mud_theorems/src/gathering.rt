@@ -1,4 +1,4 @@
-//! Players in threads of their own, and what came of them.
+//! Players in threads of their own, and their results.
 
 ghost use Rattle.std.specs.Prelude.{◌≡◌, length, map, IfOk, Ok};
 ghost use Rattle.std.specs.List.{AllZip};
@@ -15,7 +15,7 @@ use std::sync::Wait;
 use std::thread;
 use std::thread::Threads;
 
-/// A player for each script, at a new desk of the hall.
+/// Makes a player for each script, at a new desk of the hall.
 pub(crate) fn seat_all<J: HallName, R: Wait>(
     rt: &R,
     alloc: Global,
@@ -32,8 +32,8 @@ pub(crate) fn seat_all<J: HallName, R: Wait>(
     Ok(players)
 }
 
-/// What a thread does with a hall and a player, whatever their types are, and what is typed: the prover need not look
-/// into the types where threads begin.
+/// The work of a thread with a hall and a player of any types, and the player's input. So the prover need not look into
+/// these types at the start of threads.
 pub(crate) trait Plays<H, P, C> {
     ghost use Rattle.std.specs.Prelude.{◌≡◌, ℕ, List, IfOk};
     ghost use Rattle.std.specs.Thread.{IsSync};
@@ -47,7 +47,7 @@ pub(crate) trait Plays<H, P, C> {
         ensures { IfOk result (λ played. typed played ≡ to_type player) };
 }
 
-/// What it does with the hall that `J` names.
+/// The work of a thread with the hall that `J` names.
 #[derive(Drop)]
 pub(crate) struct AtHall<J: HallName> {
     of: PhantomData<J>,
@@ -67,7 +67,7 @@ impl<J: HallName> Plays<Hall<J>, Player<J>, Played<J>> for AtHall<J> {
     }
 }
 
-/// Each player plays, in a thread of its own.
+/// Lets each player play, in a thread of its own.
 pub(crate) fn play_all<
     H: Sync,
     P: Send + Drop,
@@ -84,7 +84,7 @@ pub(crate) fn play_all<
     all_of(alloc, thread::map_vec(rt, players, &play)?)
 }
 
-// What these results hold, where none is an error.
+// Returns the values of these results, or the first error.
 fn all_of<C: Drop>(alloc: Global, results: Vec<Result<C, AllocError>>) -> Result<Vec<C>, AllocError>
     ensures { IfOk result (λ all. results.items ≡ map Ok all.items) }
 {
@@ -95,7 +95,7 @@ fn all_of<C: Drop>(alloc: Global, results: Vec<Result<C, AllocError>>) -> Result
     Ok(all)
 }
 
-/// The desks of those who played, and what each of them typed and was sent.
+/// Returns the desks of the players, and the input and output of each.
 pub(crate) fn take_apart<J: HallName>(
     alloc: Global,
     all: Vec<Played<J>>,

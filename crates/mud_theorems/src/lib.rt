@@ -1,12 +1,11 @@
-//! What holds of many sessions at one hall, and of what a crash leaves of its journal: the theorems for which no crate
-//! below is enough.
+//! Theorems about many sessions at one hall, and about its journal after a crash, for which no crate below is enough.
 //!
-//! - [`laws::one_run`]: what is called at the desks of a hall, by whichever threads, is one run of the hall.
-//! - [`play_together`] has players type at once, each in a thread of its own. There is one run of the hall, of which
-//!   what each player typed and was sent is a part.
-//! - [`laws::survival`]: what was told of a version that the journal has synced still holds of what a crash leaves.
+//! - [`laws::one_run`]: the calls of any threads at the desks of a hall are one run of the hall.
+//! - [`play_together`] lets players type at once, each in a thread of its own. The input and output of each player are
+//!   a part of one run of the hall.
+//! - [`laws::survival`]: each reply and answer up to the last synced version still holds after a crash.
 //!
-//! No server calls [`play_together`]: it shows what the calls of a hall and of a session are worth where threads run.
+//! No server calls [`play_together`]: it shows what the contracts of a hall and of a session give for running threads.
 #![tactic(auto)]
 
 mod fault;

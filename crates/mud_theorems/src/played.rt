@@ -1,4 +1,4 @@
-//! A player at a desk, before and after he played.
+//! A player at a desk, before and after playing.
 
 ghost use Rattle.std.specs.Prelude.{◌≡◌, length, IfOk};
 ghost use Rattle.mud_hall.specs.Desk.{IsNew};
@@ -12,10 +12,10 @@ use std::alloc::{AllocError, Global};
 use std::sync::Wait;
 use std::thread::Threads;
 
-// How many threads of its own a desk's guide has beside its player's.
+// The number of threads that a desk's guide has beside its player's.
 const WORKERS: u32 = 1;
 
-/// A new desk, and what is to be typed there.
+/// A new desk, and the input for it.
 #[derive(Drop)]
 pub(crate) struct Player<J: HallName> {
     pub(crate) alloc: Global,
@@ -24,7 +24,7 @@ pub(crate) struct Player<J: HallName> {
     ghost new: { ∥ IsNew J.loaded desk.state ∥₁ },
 }
 
-/// A desk, and what was typed and sent there.
+/// A desk, with its input and output.
 #[derive(Drop)]
 pub(crate) struct Played<J: HallName> {
     pub(crate) desk: Desk<J>,
@@ -33,7 +33,7 @@ pub(crate) struct Played<J: HallName> {
 }
 
 impl<J: HallName> Player<J> {
-    /// A player at a desk of the hall.
+    /// Makes a player at a desk of the hall.
     pub(crate) fn new(alloc: Global, desk: Desk<J>, typed: Vec<u8>) -> Player<J>
         requires { IsNew J.loaded desk.state }
         ensures { result.typed ≡ typed }
@@ -41,7 +41,7 @@ impl<J: HallName> Player<J> {
         Player { alloc, desk, typed }
     }
 
-    /// Has a session at the desk take in all that is typed. The only error is out of memory.
+    /// Feeds the whole input to a session at the desk. The only error is out of memory.
     pub(crate) fn play<R: Threads + Wait + Sync>(
         self,
         rt: &R,

@@ -13,13 +13,13 @@ use std::alloc::Global;
 use std::sync::Wait;
 use std::thread::Threads;
 
-/// Has a player for each script type it, all at once: each at a new desk of the hall, with a session of its own, in a
-/// thread of its own. Then the hall is settled. There is one run of the hall that ends with this history, and each
-/// transcript, in the order of the scripts, is the part of one desk in it: so each line that was typed had its turn,
-/// once and in order, and what was sent is what this run answers.
+/// Plays all scripts at once: each at a new desk of the hall, with a session of its own, in a thread of its own. Then
+/// it settles the hall. One run of the hall ends with the returned history. Each transcript, in the order of the
+/// scripts, is the part of one desk in this run. So each line of a script had its turn, once and in order, and the
+/// output is the answers of this run.
 ///
-/// After a fault the hall and its desks are gone. `DesksFull` comes where the hall has no desk left, and `Close` where
-/// somebody else has a desk of it.
+/// After a fault the hall and its desks are gone. `DesksFull` comes if the hall has no desk left, and `Close` if
+/// another caller has a desk of it.
 pub fn play_together<J: HallName + Send + Sync, R: Threads + Wait + Sync>(
     rt: &R,
     alloc: Global,
@@ -32,7 +32,7 @@ pub fn play_together<J: HallName + Send + Sync, R: Threads + Wait + Sync>(
     let players = seat_all(rt, alloc, &hall, scripts)?;
     let all = play_all::<Hall<J>, Player<J>, Played<J>, AtHall<J>, R>(rt, alloc, &hall, players)?;
     let (desks, transcripts) = take_apart(alloc, all)?;
-    // for the prover: the law that what is called at settled desks is one run
+    // for the prover: the law that the calls at settled desks are one run
     one_run();
     match hall.close(rt, desks) {
         Ok(settled) => Ok((settled, transcripts)),

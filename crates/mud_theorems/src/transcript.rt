@@ -1,9 +1,9 @@
-//! What a player typed, and what he was sent.
+//! The input and the output of a player.
 
-/// What a player typed, and what he was sent: bytes of a Telnet stream.
+/// The input and the output of a player: bytes of a Telnet stream.
 #[derive(Drop)]
 pub struct Transcript {
-    /// All that he typed.
+    /// The whole input.
     pub typed: Vec<u8>,
     /// The greeting, and all answers and notices.
     pub sent: Vec<u8>,

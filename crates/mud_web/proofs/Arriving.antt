@@ -1,4 +1,4 @@
--- What the other side writes is what a message types.
+-- A message types the text that the other side sent.
 use Rattle.std.proofs.Common.{Some, refl, ap, arith}
 use Rattle.websocket.specs.Content.{text}
 use Rattle.websocket.proofs.RoundTripLemmas.{read_step_written}

@@ -1,4 +1,4 @@
--- What stands behind the line ends in front, and the first empty line.
+-- The bytes after leading line ends, and the first empty line.
 use Rattle.std.proofs.Common.{◌≡◌, ℕ, Bool, true, false, if◌then◌else◌, List, [], ◌∷◌}
 use Rattle.std.proofs.Common.{◌++◌, refl, ◌∙◌, ap, codes}
 use Rattle.std.specs.Prelude.{IsTrue}

@@ -1,4 +1,4 @@
--- The frame that a close of the server's own adds.
+-- The frame that the server's own close appends.
 use Rattle.std.proofs.Common.{◌≡◌, ℕ, List, [], ◌++◌, if◌then◌else◌, Option, None, Some, Ok, refl, append-nil}
 use Rattle.std.specs.Prelude.{is_some}
 use Rattle.websocket.specs.declared.protocol.config.Role.TheVariants.{Server}

@@ -1,4 +1,4 @@
--- The machine that reads a first line says what the form says.
+-- The state machine for a first line agrees with the grammar.
 use Rattle.std.proofs.Common.{◌≡◌, ℕ, ◌<◌, Bool, true, false, if◌then◌else◌, ◌==◌, List, [], ◌∷◌, ◌++◌, length}
 use Rattle.std.proofs.Common.{All, refl, sym, ◌∙◌, ap, arith, codes}
 use Rattle.std.specs.Prelude.{IsTrue, ◌↔◌}
@@ -35,9 +35,9 @@ request_stays (b ∷ bs) = request_stays bs
 not_other : (bs : List ℕ) → ¬ (fold next Other bs ≡ Request)
 not_other bs is = cc (sym (other_stays bs) ∙ is)
 
--- ---- what is left to come at each place, behind the target
+-- ---- the rest of the form at each position after the target
 
--- the bytes begin with these, and lead there
+-- the bytes begin with these, which lead to this position
 record Begins (front bs : List ℕ) : Type 0 where
   digit : ℕ
   rest : List ℕ
@@ -199,7 +199,7 @@ line_of bs inner some =
           (target.is ∙ ap (λ (xs : List ℕ). target.target ++ SPACE ∷ xs) target.begins.is);
     }
 
--- ---- line ends in front
+-- ---- leading line ends
 
 ends_before : (b : ℕ) (bs : List ℕ) → IsTrue (is_line_end b) → BeginsRequest bs → BeginsRequest (b ∷ bs)
 ends_before b bs end (blank, line, ends, form, is) = (
@@ -231,7 +231,7 @@ pub begins_from_run : (bs : List ℕ) → fold next Blank bs ≡ Request → Beg
 begins_from_run [] is = absurd (cc is)
 begins_from_run (b ∷ bs) is = by_start b bs _ refl is (begins_from_run bs)
 
--- ---- the other way
+-- ---- the converse
 
 slash_next : (b : ℕ) → is_ascii_digit b ≡ true → next Slash b ≡ Request
 slash_next b h = rw h refl
@@ -307,7 +307,7 @@ pub run_from_begins : (bs : List ℕ) → BeginsRequest bs → fold next Blank b
 run_from_begins bs (blank, line, ends, form, is) =
     ap (fold next Blank) is ∙ (run_blank blank line ends ∙ run_line line form)
 
--- ---- what a place says
+-- ---- the verdict at a position
 
 may_become : (bs more : List ℕ) (place : Place) → fold next Blank bs ≡ place → fold next place more ≡ Request
     → BeginsRequest (bs ++ more)
@@ -393,7 +393,7 @@ pub feed_decides : (old new : FirstLine) (earlier bytes : List ℕ) → new.plac
 feed_decides old new earlier bytes fed stands =
     decides_at (earlier ++ bytes) new.place (sym (stands_on old new earlier bytes fed stands).is)
 
--- ---- what is undecided ends no line
+-- ---- an undecided connection has no complete line
 
 abbrev IsOpen : Place → Type 0
 IsOpen Request = ⊥

@@ -24,9 +24,9 @@ pub fit_at : (buf : List ℕ) (spans : List HeaderSpan) (r : RequestSpans) (h : 
     → HasHost r.version (fields_at buf (take r.headers spans)) → IsRead (span_bytes buf r.method) → IsFit h
 fit_at buf spans r h at host read = (rw (at.version, at.fields) at host, rw at.method at read)
 
--- ---- what a request to play is answered
+-- ---- the answer to a request to play
 
--- what the head has besides its fields is told rightly
+-- the record describes the head without its fields
 record IsTold (h : RequestHead) (besides : Besides) : Type 0 where
   get : IsTrue besides.is_get ↔ (h.method ≡ codes "GET")
   version : besides.version ≡ h.minor

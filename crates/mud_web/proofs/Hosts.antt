@@ -1,4 +1,4 @@
--- The machine that reads a host says what the form says; the absolute form of a target.
+-- The state machine for a host agrees with the grammar; the absolute form of a target.
 use Rattle.std.proofs.Common.{◌≡◌, ℕ, ◌<◌, ◌-◌, Bool, true, false, if◌then◌else◌, ◌==◌, List, [], ◌∷◌}
 use Rattle.std.proofs.Common.{◌++◌, length, take, drop, map, refl, sym, ◌∙◌, ap, subst, arith, append_assoc}
 use Rattle.std.proofs.Common.{codes, inl, inr, ◌⊎◌, length-append, take-append-drop}
@@ -54,7 +54,7 @@ digits_end (b ∷ bs) digits =
     ends_at Port b bs Port (port_next b (All-head (λ b. IsTrue (is_ascii_digit b)) b bs digits))
     (digits_end bs (All-tail (λ b. IsTrue (is_ascii_digit b)) b bs digits))
 
--- ---- behind a host
+-- ---- after a host
 
 shut_by : (b : ℕ) (bs : List ℕ) (t : Bool) → (b == colon) ≡ t → Ends (if t then Port else Other) bs → IsPort (b ∷ bs)
 shut_by b bs true is ends =

@@ -1,4 +1,4 @@
--- UTF-8 has no byte 255, and bytes without one are lines to a terminal.
+-- UTF-8 never contains the byte 255, and a terminal reads bytes without it as lines.
 use Rattle.std.proofs.Common.{◌≡◌, ℕ, zero, suc, ◌<◌, Bool, true, false, if◌then◌else◌, ◌==◌, ◌&&◌, ◌||◌, nat_le}
 use Rattle.std.proofs.Common.{nat_lt, List, [], ◌∷◌, length, drop, All, Option, None, Some, Result, Ok, Err, refl}
 use Rattle.std.proofs.Common.{arith}
@@ -80,7 +80,7 @@ encodes_low (c ∷ cs) is =
 utf8_low : (bs : List ℕ) → IsUtf8 bs → All IsLow bs
 utf8_low bs (cs, (valid, is)) = rw is at (encodes_low cs valid)
 
--- ---- what is typed
+-- ---- the typed bytes
 
 message_low : (m : Option Content) → IfSome m HasValidText → All IsLow (typed_by m)
 message_low None valid = All-nil IsLow
@@ -108,7 +108,7 @@ reads_low (suc n) conn bs = reads_low_by n conn bs _ refl (reads_low n)
 pub typed_low : (bytes : List ℕ) → All (λ b. b < IAC) (typed_of bytes)
 typed_low bytes = reads_low (suc (length bytes)) new_connection bytes
 
--- ---- what a terminal makes of it
+-- ---- how a terminal reads them
 
 abbrev IsTyping : Stroke → Type 0
 IsTyping AreYouThere = ⊥

@@ -1,4 +1,4 @@
--- A server stays one, and open until a close comes; what it replies has no mask.
+-- A server's connection keeps its role, and stays open until a close comes. Its replies have no mask.
 use Rattle.std.proofs.Common.{◌≡◌, ℕ, Bool, true, false, zero, suc, List, ◌++◌, length, drop, Option, None, Some}
 use Rattle.std.proofs.Common.{Result, Ok, Err, refl, sym, ◌∙◌, ap, append-nil}
 use Rattle.std.specs.Prelude.{cond, IfOk}
@@ -121,7 +121,7 @@ role_kept conn bs p read = (kept conn bs p read).0
 
 -- ---- open still
 
--- a server that closes nothing by itself
+-- a server that does not close by itself
 pub record IsLive (conn : Connection) : Type 0 where
   pub role : conn.role ≡ Server
   pub open_still : IsOpen conn.state
@@ -160,7 +160,7 @@ pub stands_live : (channel : Standing) (bytes : List ℕ) → StandsAfter channe
 stands_live channel bytes stands =
     rw stands.is at (ends_live (suc (length bytes)) new_connection bytes (record { role = refl; open_still = tt }))
 
--- ---- where reading fails
+-- ---- failed reads
 
 closed_fails : (conn : Connection) (bs : List ℕ) (e : Error) → conn.role ≡ Server → conn.state ≡ ClosedByPeer
     → read_step conn bs ≡ Err e → ConnectionClosed ≡ e
@@ -185,7 +185,7 @@ pub closes_is : (conn : Connection) (bs : List ℕ) (e : Error) → IsLive conn
     → read_step conn bs ≡ Err e → closes_in (failed_connection conn).state (ending_of e) ≡ closes_for e
 closes_is conn bs e live read = closes_by conn bs e conn.state live.role refl live.open_still read
 
--- ---- what is sent
+-- ---- sent frames
 
 pub sends_server : (reply : Option Outgoing) (old new : List ℕ) → Sends Server reply old new
     → new ≡ old ++ reply_by reply

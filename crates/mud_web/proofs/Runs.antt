@@ -1,4 +1,4 @@
--- Steps, one after the other, are a run over all that came.
+-- Successive steps are one run over all received bytes.
 use Rattle.std.proofs.Common.{◌≡◌, ℕ, zero, suc, ◌<◌, List, [], ◌∷◌, ◌++◌, length, drop, Result, Ok, Err, refl, sym}
 use Rattle.std.proofs.Common.{◌∙◌, ap, arith, append-nil, append_assoc, length-drop}
 use Rattle.std.specs.Prelude.{option_map}
@@ -181,9 +181,9 @@ pub fresh : (line : Standing) → line.conn ≡ new_connection → line.unread �
 unfolding read_times read_step decode_frame decode_header
 fresh line conn unread goes_on = record { is = rw (conn, unread) refl; goes_on = goes_on }
 
--- ---- what a feed needs
+-- ---- the premises of a feed
 
--- all that a loop keeps: the frames so far, and that it is open still
+-- the invariant of a loop: the frames so far, and that the connection is still open
 pub record Keeps (old : Standing) (bytes : List ℕ) (line : Standing) (t0 t1 r0 r1 : List ℕ) : Type 0 where
   pub reached : Reached old.conn (old.unread ++ bytes) line t0 t1 r0 r1
   pub live : IsLive old.conn → IsLive line.conn
@@ -221,7 +221,7 @@ feeds_over old line next bytes t0 t1 t2 r0 r1 r2 r3 step_fault Ended keeps refus
 feeds_over old line next bytes t0 t1 t2 r0 r1 r2 r3 step_fault (Over e) keeps refuses sends =
     feeds_over_by old line next bytes t0 t1 t2 r0 r1 r2 r3 e keeps (rw sends.0 at refuses) sends.1
 
--- ---- what a step needs
+-- ---- the premises of a step
 
 pub took_from : (conn next : Connection) (input left unread : List ℕ) (step : Step) (has_ended : Bool)
     (t0 t1 r0 r1 : List ℕ)

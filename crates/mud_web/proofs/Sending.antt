@@ -1,4 +1,4 @@
--- Where a text is cut, and that its messages arrive.
+-- The cuts of a text, and the arrival of its messages.
 use Rattle.std.proofs.Common.{◌≡◌, ◌≢◌, ℕ, zero, suc, ◌<◌, ◌≤◌, ◌+◌, ◌-◌, ◌^◌, Bool, true, false}
 use Rattle.std.proofs.Common.{if◌then◌else◌, ◌==◌, nat_le}
 use Rattle.std.proofs.Common.{List, [], ◌∷◌, ◌++◌, length, take, drop, map, get_or, All, None, Some, Ok, refl, sym}
@@ -100,7 +100,7 @@ pub end_some : (n most : ℕ) → n ≢ 0 → n ≡ end_or n most
 end_some zero most some = absurd (some refl)
 end_some (suc n) most some = refl
 
--- how a bs of more than so many bytes is cut at a place
+-- the cut of a text that is longer than the limit, at this place
 record IsCutAt (most : ℕ) (bs : List ℕ) (len : ℕ) : Type 0 where
   some : 0 < len
   within : len ≤ most
@@ -189,7 +189,7 @@ messages_more (b ∷ bs) any =
     ap (λ (more : List (List ℕ)). take len (b ∷ bs) ∷ more)
     (enough (length bs) (length (drop len (b ∷ bs))) (drop len (b ∷ bs)) left (omega arith))
 
--- what each message is, while that many bytes are left at most
+-- the messages of a text that is at most this long
 record AreMessages (bs : List ℕ) (messages : List (List ℕ)) : Type 0 where
   whole : flat_map (λ m. m) messages ≡ bs
   sizes : All (λ m. (0 < length m) × (length m ≤ MOST_SENT)) messages
@@ -265,7 +265,7 @@ messages bs =
     let all = are_messages (length bs) bs (omega arith) in
     (all.whole, all.sizes, all.cut)
 
--- ---- what the other side reads
+-- ---- how the other side reads them
 
 reads_text : (bs rest : List ℕ) → IsUtf8 bs → length bs < 2 ^ 63
     → read_step client (frame_of bs ++ rest)
@@ -319,7 +319,7 @@ texts_arrive bs rest ascii =
     reads_all (messages_of bs) rest
     (λ k d h. (IsUtf8-from_ascii _ (all k d h), let size = (sizes k d h).1 in omega arith))
 
--- ---- what a loop over the messages needs
+-- ---- the premises of a loop over the messages
 
 pub frames_more : (out bs : List ℕ) → 0 < length bs
     → (out ++ frame_of (take (first_len bs) bs)) ++ frames_of (drop (first_len bs) bs) ≡ out ++ frames_of bs

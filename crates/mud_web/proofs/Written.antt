@@ -1,4 +1,4 @@
--- Texts that are added one behind the other.
+-- Texts appended one after another.
 use Rattle.std.proofs.Common.{◌≡◌, ℕ, List, ◌++◌, append_assoc}
 
 pub three_after : (old a b c : List ℕ) {x y z : List ℕ} → x ≡ old ++ a → y ≡ x ++ b → z ≡ y ++ c

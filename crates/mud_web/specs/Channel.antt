@@ -1,5 +1,5 @@
--- The server's side of a web socket after its handshake (RFC 6455, sections 5 and 7): what the messages of the client
--- type, and what is replied by itself.
+-- The server's side of a web socket after the handshake (RFC 6455, sections 5 and 7): the text that the client's
+-- messages type, and the automatic replies.
 use Rattle.std.specs.Prelude.{◌≡◌, ℕ, Bool, false, List, [], ◌∷◌, ◌++◌, Option, None, Some, Ok, Err}
 use Rattle.std.specs.List.{flat_map}
 use Rattle.websocket.specs.declared.error.Error.{Error}
@@ -15,8 +15,8 @@ use Rattle.mud_web.specs.Close.{closes_for}
 use Rattle.mud_web.specs.declared.fault.Fault.{Fault}
 use Rattle.mud_web.specs.declared.fault.Fault.TheVariants.{Over}
 
--- a connection of a server to which no frame came yet: a message and a frame have 4,096 bytes at most, and a frame
--- without a mask is refused
+-- a server's connection before the first frame: messages and frames have at most 4,096 bytes, and a frame without a
+-- mask is refused
 abbrev pub new_connection : Connection
 new_connection = record {
   role = Server;
@@ -29,7 +29,7 @@ new_connection = record {
   };
 }
 
--- what a channel is: the state of the protocol, the bytes after the last whole frame, and whether it has ended
+-- the state of a channel: the state of the protocol, the bytes after the last whole frame, and whether it has ended
 pub record Standing : Type 0 where
   pub conn : Connection
   pub unread : List ℕ
@@ -40,11 +40,11 @@ abbrev pub typed_by : Option Content → List ℕ
 typed_by (Some (text bs)) = bs ++ LF ∷ []
 typed_by other = []
 
--- what all these frames type, in order
+-- the text that these frames type, in order
 abbrev pub text_typed : List Effect → List ℕ
 text_typed effects = flat_map (λ e. typed_by e.message) effects
 
--- what is typed by all bytes that came
+-- the text that these bytes type
 abbrev pub typed_of : List ℕ → List ℕ
 typed_of bytes = text_typed (read_all new_connection bytes).effects
 
@@ -53,44 +53,44 @@ abbrev pub reply_by : Option Outgoing → List ℕ
 reply_by None = []
 reply_by (Some frame) = encode_frame (whole_header frame.opcode None) frame.payload
 
--- what is replied to all these frames, in order: to a ping its pong, to a close its close
+-- the replies to these frames, in order: a pong to a ping, and a close to a close
 abbrev pub replies : List Effect → List ℕ
 replies effects = flat_map (λ e. reply_by e.reply) effects
 
--- the channel stands where these bytes, and no others, came to it: all frames of them were read, in whatever pieces
--- they came, and neither side closed
+-- the state of a channel that received exactly these bytes: all their frames were read, however the stream was cut, and
+-- neither side closed
 pub record StandsAfter (channel : Standing) (bytes : List ℕ) : Type 0 where
   pub is : (read_all new_connection bytes).end ≡ Ok (channel.conn, channel.unread)
   pub goes_on : channel.has_ended ≡ false
 
--- these are the frames that the bytes finish, after the earlier ones
+-- these frames are complete after the bytes and were not before
 abbrev pub Finishes : (earlier bytes : List ℕ) → List Effect → Type 0
 Finishes earlier bytes fresh =
     (read_all new_connection (earlier ++ bytes)).effects ≡ (read_all new_connection earlier).effects ++ fresh
 
--- what is typed grows by what the frames type that the bytes finish, and what is replied by the replies to them and
--- then by this end
+-- the typed text gains the text of the frames that the bytes complete, and the replies gain the replies to those
+-- frames, followed by this end
 pub record Grows (earlier bytes typed_old typed_new replies_old replies_new end : List ℕ) : Type 0 where
   pub fresh : List Effect
   pub finishes : Finishes earlier bytes fresh
   pub types : typed_new ≡ typed_old ++ text_typed fresh
   pub answers : replies_new ≡ replies_old ++ replies fresh ++ end
 
--- the channel takes these bytes in, whatever bytes came earlier
+-- the channel consumes these bytes, whatever bytes came earlier
 pub record TakesIn (old new : Standing) (bytes typed_old typed_new replies_old replies_new : List ℕ) : Type 0 where
   pub stands : (earlier : List ℕ) → StandsAfter old earlier → StandsAfter new (earlier ++ bytes)
   pub grows : (earlier : List ℕ) → StandsAfter old earlier
       → Grows earlier bytes typed_old typed_new replies_old replies_new []
 
--- the channel takes these bytes in up to the frame that ends the connection with this error: nothing of that frame is
--- typed, and the close that the error asks for is replied
+-- the channel consumes these bytes up to the frame that ends the connection with this error. That frame types nothing,
+-- and the reply to it is the close that the error calls for
 pub record EndsWith (old : Standing) (bytes typed_old typed_new replies_old replies_new : List ℕ)
     (e : Error) : Type 0 where
   pub ends : (earlier : List ℕ) → StandsAfter old earlier → (read_all new_connection (earlier ++ bytes)).end ≡ Err e
   pub grows : (earlier : List ℕ) → StandsAfter old earlier
       → Grows earlier bytes typed_old typed_new replies_old replies_new (closes_for e)
 
--- a fact on the error with which the protocol ended, if that is the fault
+-- a fact about the protocol error, if the fault is one
 abbrev pub IfOver : Fault → (Error → Type 0) → Type 0
 IfOver (Over e) P = P e
 IfOver other P = Unit {0}

@@ -1,4 +1,4 @@
--- How a channel is closed: the codes of RFC 6455, section 7.4.1, with their reasons, and their frames.
+-- The closing of a channel: the codes of RFC 6455, section 7.4.1, with their reasons and frames.
 use Rattle.std.specs.Prelude.{ℕ, List, [], Option, None, Some, is_some, if◌then◌else◌, codes}
 use Rattle.websocket.specs.declared.error.Error.{Error}
 use Rattle.websocket.specs.declared.error.Error.TheVariants as Cause
@@ -36,8 +36,8 @@ abbrev pub close_frame : Ending → List ℕ
 close_frame ending =
     encode_frame (whole_header (Op.Control Close) None) (close_payload (Some (code_of ending, reason_of ending)))
 
--- the ending that an error of the protocol asks for: a broken rule 1002, a text that is not UTF-8 1007, a message or a
--- frame over the limit 1009; after the close of the other side none is due
+-- the ending that a protocol error calls for: 1002 for a broken rule, 1007 for text that is not UTF-8, and 1009 for a
+-- message or a frame over the limit. After the other side's close there is none
 abbrev pub ending_of : Error → Option Ending
 ending_of (Cause.Protocol e) = Some ProtocolError
 ending_of Cause.Utf8 = Some InvalidData
@@ -51,10 +51,10 @@ abbrev pub closes : Option Ending → List ℕ
 closes None = []
 closes (Some ending) = close_frame ending
 
--- what is sent where reading ends with this error
+-- the bytes sent when reading ends with this error
 abbrev pub closes_for : Error → List ℕ
 closes_for e = closes (ending_of e)
 
--- a close is sent once: where one was sent already, or the connection has failed after one, nothing is
+-- a close is sent once: nothing is sent if a close was already sent, or if the connection has failed after one
 abbrev pub closes_once : WebSocketState → Ending → List ℕ
 closes_once state ending = if is_some (closing_state state) then close_frame ending else []

@@ -1,4 +1,4 @@
--- The first line of a request of HTTP (RFC 9112, section 3), as it may stand in front of what a player would type.
+-- The first line of an HTTP request (RFC 9112, section 3) at the start of a Telnet connection.
 use Rattle.std.specs.Prelude.{◌≡◌, ◌<◌, ℕ, List, ◌∷◌, ◌++◌, length, IsTrue, codes, Bool, ◌||◌, ◌==◌}
 use Rattle.std.specs.List.{fold}
 use Rattle.std.specs.Char.{is_ascii_alphabetic, is_ascii_digit, is_ascii_graphic}
@@ -10,7 +10,7 @@ use Rattle.mud_web.specs.declared.first_line.Place.TheVariants.{Blank}
 use Rattle.mud_web.specs.declared.first_line.TheConstants.{SPACE}
 use Rattle.mud_web.specs.inner.Places.{next}
 
--- a word of letters, a space, a target of visible characters, a space, `HTTP/` and a digit, whatever follows
+-- a line that begins with letters, a space, a target of visible characters, a space, `HTTP/` and a digit
 pub record IsRequestLine (line : List ℕ) : Type 0 where
   pub word : List ℕ
   pub target : List ℕ
@@ -30,13 +30,14 @@ abbrev pub BeginsRequest : List ℕ → Type 0
 BeginsRequest bytes =
     (blank line : List ℕ) × AllPass is_line_end blank × IsRequestLine line × (bytes ≡ blank ++ line)
 
--- what the bytes say: they begin with such a line; whatever follows, they never will; or they do not yet, and may
+-- the verdict on the bytes: they begin with a request's first line; they can never begin with one; or both are still
+-- possible
 abbrev pub Decides : Verdict → List ℕ → Type 0
 Decides Request bytes = BeginsRequest bytes
 Decides NoRequest bytes = (more : List ℕ) → ¬ (BeginsRequest (bytes ++ more))
 Decides Undecided bytes = ¬ (BeginsRequest bytes) × ((more : List ℕ) × BeginsRequest (bytes ++ more))
 
--- these bytes, and no others, came. A reader need not look into this: `new` makes one after no bytes, `feed` leads on
--- from there, and what is claimed of the verdict names only the bytes
+-- the detector received exactly these bytes. A reader need not look into this: `new` gives the state after no bytes,
+-- `feed` advances it, and the contracts state the verdict by the bytes alone
 pub record StandsAfter (first : FirstLine) (bytes : List ℕ) : Type 0 where
   pub is : first.place ≡ fold next Blank bytes

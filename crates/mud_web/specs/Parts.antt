@@ -1,4 +1,4 @@
--- Which part of an answer is sent (RFC 9110, section 9.3.2).
+-- The part of an answer that is sent (RFC 9110, section 9.3.2).
 use Rattle.std.specs.Prelude.{◌≡◌, ◌⊎◌, ◌<◌, ◌+◌, ℕ, List, ◌++◌, length, take, drop, codes}
 use Rattle.httparse.specs.Grammar.{AllPass}
 use Rattle.mud_web.specs.declared.body.Body.{Body}
@@ -9,11 +9,11 @@ use Rattle.mud_web.specs.FirstLine.{is_line_end}
 abbrev pub AsksForHead : List ℕ → Type 0
 AsksForHead bytes = (blank rest : List ℕ) × AllPass is_line_end blank × (bytes ≡ blank ++ (codes "HEAD " ++ rest))
 
--- an empty line comes here: the end of a line, and another
+-- an empty line begins here: the end of a line, and another line end
 abbrev pub EndsHead : List ℕ → Type 0
 EndsHead bytes = (rest : List ℕ) × (bytes ≡ codes "\r\n\r\n" ++ rest)
 
--- of an answer all is sent, or all up to and with its first empty line
+-- either all of an answer is sent, or everything up to and including its first empty line
 abbrev pub IsPart : Body → (answer part : List ℕ) → Type 0
 IsPart Sent answer part = part ≡ answer
 IsPart LeftOut answer part =

@@ -1,4 +1,4 @@
--- What the head of a request asks for (RFC 6455, section 4.2, and RFC 9110).
+-- The meaning of a request's head (RFC 6455, section 4.2, and RFC 9110).
 use Rattle.std.specs.Prelude.{◌≡◌, ◌≢◌, ◌⊎◌, ◌≤◌, ◌<◌, ℕ, List, [], ◌∷◌, length, drop, map, codes}
 use Rattle.httparse.specs.Grammar.{RequestHead, print_request, ReadsRequest, NeverHasRequest, MayBecomeRequest}
 use Rattle.httparse.specs.Spans.{name_and_value, RequestExceeds}
@@ -12,7 +12,7 @@ use Rattle.mud_web.specs.declared.asking.Asked.{Asked}
 use Rattle.mud_web.specs.declared.asking.Asked.TheVariants.{More, Page, Play, Refused}
 use Rattle.mud_web.specs.declared.refusal.Refusal.TheVariants as Status
 
--- the names and the values of a head's fields, each value without the white space around it
+-- the names and values of a head's fields; each value is trimmed
 abbrev pub fields_of : RequestHead → Fields
 fields_of head = map name_and_value head.fields
 
@@ -26,36 +26,36 @@ pub record Upgrades (head : RequestHead) (key : List ℕ) : Type 0 where
   pub version : head.minor ≢ 0
   pub asks : AsksKey (fields_of head) key
 
--- it is not longer than a head may be, and has no more fields than one may have
+-- the head is within the limits on its length and on the number of its fields
 abbrev pub IsSmall : RequestHead → Type 0
 IsSmall head = (length (print_request head) ≤ MOST_HEAD) × (length head.fields ≤ MOST_FIELDS)
 
--- the method asks to read: GET, or HEAD, which is answered as GET but without a body (RFC 9110, section 9.3.2)
+-- a method that only reads: GET, or HEAD, which is answered like GET but without a body (RFC 9110, section 9.3.2)
 abbrev pub IsRead : (method : List ℕ) → Type 0
 IsRead method = (method ≡ codes "GET") ⊎ (method ≡ codes "HEAD")
 
--- exactly one field is named Host, and has the form of a host; before HTTP/1.1 it may be left out (RFC 9112, 3.2)
+-- exactly one field is named Host, and it has the form of a host; HTTP/1.0 may leave it out (RFC 9112, 3.2)
 abbrev pub HasHost : (minor : ℕ) → Fields → Type 0
 HasHost minor fields =
     let hosts = values fields (codes "Host") in
     ((hosts ≡ []) × (minor ≡ 0)) ⊎ ((host : List ℕ) × IsHost host × (hosts ≡ host ∷ []))
 
--- the target is the page, or where to play; an absolute form may leave the path `/` out
+-- the target is the page, or the web socket; an absolute form may leave out the path `/`
 abbrev pub IsPage : (target : List ℕ) → Type 0
 IsPage target = Names target (codes "/") ⊎ IsSite target
 
 abbrev pub IsPlay : (target : List ℕ) → Type 0
 IsPlay target = Names target (codes "/play")
 
--- it asks to read what there is, by its host and its method
+-- the request has a valid host and a method that only reads
 abbrev pub IsFit : RequestHead → Type 0
 IsFit head = HasHost head.minor (fields_of head) × IsRead head.method
 
--- it asks to play
+-- the request asks to play
 abbrev pub AsksToPlay : RequestHead → Type 0
 AsksToPlay head = IsFit head × IsPlay head.target
 
--- a whole head is answered so, at a server whose page has this origin
+-- the answer to a whole head, at a server whose page has this origin
 abbrev pub Answers : RequestHead → (origin : List ℕ) → Asked → Type 0
 Answers head origin Page = IsFit head × IsPage head.target
 Answers head origin (Play accept len) =
@@ -72,27 +72,27 @@ Answers head origin (Refused Status.BadRequest) =
     ⊎ (AsksToPlay head × ComesFrom head origin × Has13 (fields_of head) × ¬ ((key : List ℕ) × Upgrades head key))
 Answers head origin other = ⊥
 
--- bytes at whose front there is no whole head are answered so: more are waited for while they are few and a head can
--- come of them; they are refused where none can, or where they or their fields are too many
+-- the answer to bytes that do not begin with a whole head. The server waits for more bytes while they are few and can
+-- still become a head, and refuses them otherwise
 abbrev pub Waits : List ℕ → Asked → Type 0
 Waits bytes More = (length bytes < MOST_HEAD) × MayBecomeRequest bytes
 Waits bytes (Refused Status.BadRequest) = NeverHasRequest bytes
 Waits bytes (Refused Status.TooLarge) = (MOST_HEAD ≤ length bytes) ⊎ RequestExceeds MOST_FIELDS bytes
 Waits bytes other = ⊥
 
--- a whole head is answered, or refused where it is too large
+-- a whole head is answered, or refused if it is too large
 abbrev pub AnswersWhole : RequestHead → (origin : List ℕ) → Asked → Type 0
 AnswersWhole head origin asked =
     (IsSmall head → Answers head origin asked) × (¬ (IsSmall head) → asked ≡ Refused Status.TooLarge)
 
--- who is let in to play asked for it by a whole head
+-- a request that is admitted to play has a whole head that asked for it
 abbrev pub LetsIn : (bytes origin : List ℕ) → Asked → Type 0
 LetsIn bytes origin (Play accept len) =
     (head : RequestHead) × ReadsRequest bytes head (drop len bytes) × IsSmall head
     × Answers head origin (Play accept len)
 LetsIn bytes origin other = Unit {0}
 
--- a fact on the key that is answered, where one is
+-- a fact about the key in the answer, if there is one
 abbrev pub IfPlay : Asked → (List ℕ → Type 0) → Type 0
 IfPlay (Play accept len) P = P accept
 IfPlay other P = Unit {0}

@@ -1,4 +1,4 @@
--- The answers that refuse a request (RFC 9110, section 15; RFC 6585, section 5).
+-- The answers to refused requests (RFC 9110, section 15; RFC 6585, section 5).
 use Rattle.std.specs.Prelude.{ℕ, List, [], ◌++◌, codes}
 use Rattle.mud_web.specs.declared.refusal.Refusal.{Refusal}
 use Rattle.mud_web.specs.declared.refusal.Refusal.TheVariants.{BadRequest, Forbidden, NotFound, MethodNotAllowed}
@@ -16,18 +16,18 @@ status_of RequestTimeout = codes "408 Request Timeout"
 status_of UpgradeRequired = codes "426 Upgrade Required"
 status_of TooLarge = codes "431 Request Header Fields Too Large"
 
--- each answer closes the connection, and a 426 names what may be upgraded to (RFC 9110, section 7.8)
+-- each answer closes the connection, and a 426 names the protocol to upgrade to (RFC 9110, section 7.8)
 abbrev pub connection_of : Refusal → List ℕ
 connection_of UpgradeRequired = codes "Connection: close, Upgrade\r\n"
 connection_of other = codes "Connection: close\r\n"
 
--- a 405 names the methods that there are, and a 426 the protocol and its version (RFC 6455, section 4.4)
+-- a 405 names the supported methods, and a 426 the protocol and its version (RFC 6455, section 4.4)
 abbrev pub field_of : Refusal → List ℕ
 field_of MethodNotAllowed = codes "Allow: GET, HEAD\r\n"
 field_of UpgradeRequired = codes "Upgrade: websocket\r\nSec-WebSocket-Version: 13\r\n"
 field_of other = []
 
--- a 403 says where the server's page is, and any other its status
+-- a 403 gives the address of the server's page, and any other its status
 abbrev pub body_of : Refusal → List ℕ
 body_of Forbidden = codes "403 Forbidden: this world is played at "
 body_of other = status_of other
@@ -55,7 +55,7 @@ head_of refusal = status_line refusal ++ fields_of refusal
 abbrev pub body_bytes : Refusal → (origin : List ℕ) → List ℕ
 body_bytes refusal origin = body_of refusal ++ shown_of refusal origin ++ codes "\r\n"
 
--- the answer: its body ends with the connection, and to HEAD there is none
+-- the answer; its body ends with the connection, and the answer to HEAD has no body
 abbrev pub refusal_bytes : Refusal → (origin : List ℕ) → Body → List ℕ
 refusal_bytes refusal origin Sent = head_of refusal ++ body_bytes refusal origin
 refusal_bytes refusal origin LeftOut = head_of refusal

@@ -1,4 +1,4 @@
--- The form of a host, and which target names a path (RFC 9110, section 4.2; RFC 9112, section 3.2).
+-- The form of a host, and the targets that name a path (RFC 9110, section 4.2; RFC 9112, section 3.2).
 use Rattle.std.specs.Prelude.{◌≡◌, ◌⊎◌, ◌<◌, ◌==◌, ◌||◌, ℕ, Bool, true, List, [], ◌∷◌, ◌++◌, length, codes}
 use Rattle.std.specs.List.{list_any}
 use Rattle.std.specs.Char.{is_ascii_alphanumeric, is_ascii_digit}
@@ -6,7 +6,7 @@ use Rattle.httparse.specs.Grammar.{AllPass}
 use Rattle.httparse.specs.Ascii.{colon}
 use Rattle.websocket.specs.Headers.{eq_ignore_case}
 
--- a byte of a name (RFC 3986, section 3.2.2): unreserved, of a percent-encoded byte, or a delimiter of a part
+-- a byte of a name (RFC 3986, section 3.2.2): unreserved, part of a percent-encoded byte, or a sub-delimiter
 abbrev pub is_host_byte : ℕ → Bool
 is_host_byte b = is_ascii_alphanumeric b || list_any (λ c. c == b) (codes "-._~%!$&'()*+,;=")
 
@@ -23,11 +23,11 @@ IsLiteral text =
     (address : List ℕ) × (0 < length address) × AllPass is_literal_byte address
     × (text ≡ codes "[" ++ (address ++ codes "]"))
 
--- nothing, or a colon and digits
+-- the empty text, or a colon and digits
 abbrev pub IsPort : List ℕ → Type 0
 IsPort text = (text ≡ []) ⊎ ((digits : List ℕ) × AllPass is_ascii_digit digits × (text ≡ colon ∷ digits))
 
--- a host, and maybe a port
+-- a host, and optionally a port
 pub record IsHost (text : List ℕ) : Type 0 where
   pub host : List ℕ
   pub port : List ℕ
@@ -35,12 +35,12 @@ pub record IsHost (text : List ℕ) : Type 0 where
   pub is_port : IsPort port
   pub is : text ≡ host ++ port
 
--- this start, whatever the case of its letters, and a host
+-- this start, ignoring case, followed by a host
 abbrev pub IsBehind : (start text : List ℕ) → Type 0
 IsBehind start text =
     (front host : List ℕ) × (eq_ignore_case front start ≡ true) × IsHost host × (text ≡ front ++ host)
 
--- what stands before the path in the absolute form of a target
+-- the part of an absolute target before the path
 abbrev pub IsSite : List ℕ → Type 0
 IsSite text = IsBehind (codes "http://") text ⊎ IsBehind (codes "https://") text
 

@@ -1,4 +1,4 @@
-//! What a browser asks for: the page, or to play.
+//! The head of a browser's request: it asks for the page, or to play.
 
 ghost use Rattle.std.specs.Prelude.{◌≡◌, ◌↔◌, ◌≤◌, ◌++◌, ℕ, List, [], length, All, OnOk, IsTrue, true};
 ghost use Rattle.httparse.specs.Grammar.{RequestHead, ReadsRequest, HasNoRequest};
@@ -17,32 +17,32 @@ use httparse::spans::{EMPTY_HEADER_SPAN, HeaderSpan, RequestSpans, parse_request
 use std::alloc::AllocError;
 use websocket::handshake::server::write_response;
 
-/// The most bytes that the head of a request may have.
+/// The greatest length of a request's head, in bytes.
 pub const MOST_HEAD: usize = 8192;
 
-/// The most fields that the head of a request may have.
+/// The greatest number of fields in a request's head.
 pub const MOST_FIELDS: usize = 64;
 
-/// What the head of a request asks for.
+/// The meaning of a request's head.
 #[derive(Clone, Copy, Debug, PartialEq, Eq)]
 pub enum Asked {
-    /// The head is not whole yet.
+    /// The head is incomplete.
     More,
-    /// The page.
+    /// The request is for the page.
     Page,
-    /// To play.
+    /// The request is for a web socket to play over.
     Play {
-        /// What is answered as `Sec-WebSocket-Accept` (RFC 6455, section 4.2.2).
+        /// The value of `Sec-WebSocket-Accept` in the answer (RFC 6455, section 4.2.2).
         accept: [u8; 28],
-        /// The length of the head: what comes after it are frames.
+        /// The length of the head. The bytes after it are frames.
         len: usize,
     },
-    /// Nothing that there is.
+    /// The request is refused.
     Refused(Refusal),
 }
 
-/// What the bytes that came ask for, at a server whose page has this origin (RFC 6454, section 6.2), as
-/// `http://localhost:8000`. A head is let in to play exactly where its method, target, versions, host, key and single
+/// Reads the bytes received so far as a request's head. `origin` is the origin of the server's page (RFC 6454, section
+/// 6.2), such as `http://localhost:8000`. A head may play exactly if its method, target, versions, host, key and single
 /// Origin are right (RFC 6455, section 4.2.1). [`Body::of`](crate::Body::of) says whether the answer has a body.
 pub fn asks(head: &[u8], origin: &[u8]) -> Asked
     ensures whole { (h : RequestHead) (rest : List ℕ) → ReadsRequest head.now h rest
@@ -61,7 +61,7 @@ pub fn asks(head: &[u8], origin: &[u8]) -> Asked
     }
 }
 
-/// Adds the answer to a head that asks to play, which goes before the first frame (RFC 6455, section 4.2.2). The only
+/// Appends the answer to a head that asks to play. It precedes the first frame (RFC 6455, section 4.2.2). The only
 /// error is out of memory.
 pub fn write_accept(accept: &[u8; 28], out: &mut Vec<u8>) -> Result<(), AllocError>
     requires { is_graphic_text accept.now ≡ true }
@@ -73,7 +73,7 @@ pub fn write_accept(accept: &[u8; 28], out: &mut Vec<u8>) -> Result<(), AllocErr
     }
 }
 
-// What a whole head asks for.
+// Returns the meaning of a whole head.
 fn answer(head: &[u8], request: &RequestSpans, spans: &[HeaderSpan], origin: &[u8]) -> Asked
     requires within { IsRequestWithin head.now spans.now request.now }
     requires room { length spans.now ≤ MOST_FIELDS }
@@ -87,7 +87,7 @@ fn answer(head: &[u8], request: &RequestSpans, spans: &[HeaderSpan], origin: &[u
     route(head, request, spans, origin)
 }
 
-// What a whole head that is not too long asks for.
+// Returns the meaning of a whole head that is within the limits.
 fn route(head: &[u8], request: &RequestSpans, spans: &[HeaderSpan], origin: &[u8]) -> Asked
     requires { IsRequestWithin head.now spans.now request.now }
     ensures answers { (h : RequestHead) → IsRequestAt head.now spans.now request.now h
@@ -117,18 +117,18 @@ fn route(head: &[u8], request: &RequestSpans, spans: &[HeaderSpan], origin: &[u8
     play(head, fields, origin, asks)
 }
 
-// What the head of a request to play has besides its fields.
+// The head of a request to play, except its fields.
 #[derive(Clone, Copy)]
 struct Besides {
-    // Whether its method is GET.
+    // True if the method is GET.
     is_get: bool,
     // The minor version of HTTP.
     version: u8,
-    // Its length.
+    // The length of the head.
     len: usize,
 }
 
-// Whether such a request is let in to play.
+// Returns the meaning of a request to play: it is admitted or refused.
 fn play(head: &[u8], fields: &[HeaderSpan], origin: &[u8], asks: Besides) -> Asked
     requires { All (IsHeaderWithin (length head.now)) fields.now }
     ensures answers { AnswersPlay (fields_of head.now fields.now) origin.now asks result }
@@ -151,21 +151,21 @@ fn play(head: &[u8], fields: &[HeaderSpan], origin: &[u8], asks: Besides) -> Ask
     }
 }
 
-// Whether a method asks to read: GET or HEAD.
+// Returns whether the method only reads: GET or HEAD.
 fn is_read(method: &[u8]) -> bool
     ensures { IsTrue result ↔ IsRead method.now }
 {
     method == b"GET".as_slice() || method == b"HEAD".as_slice()
 }
 
-// Whether a target is the page.
+// Returns whether the target is the page.
 fn is_page(target: &[u8]) -> bool
     ensures { IsTrue result ↔ IsPage target.now }
 {
     names(target, b"/") || is_site(target)
 }
 
-// Whether exactly one field is named Host, and has the form of a host; before HTTP/1.1 there may be none.
+// Returns whether exactly one field is named Host and has the form of a host. HTTP/1.0 may leave it out.
 fn has_host(head: &[u8], fields: &[HeaderSpan], version: u8) -> bool
     requires { All (IsHeaderWithin (length head.now)) fields.now }
     ensures { IsTrue result ↔ HasHost version (fields_of head.now fields.now) }

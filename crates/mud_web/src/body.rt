@@ -1,21 +1,21 @@
-//! Which part of an answer is sent.
+//! The part of an answer that is sent.
 
 ghost use Rattle.std.specs.Prelude.{◌≡◌, ◌↔◌, ◌++◌, ℕ, List};
 ghost use Rattle.mud_web.specs.declared.body.Body.TheVariants.{LeftOut};
 ghost use Rattle.mud_web.specs.Parts.{AsksForHead, IsPart};
 ghost use Rattle.mud_web.specs.inner.Fronts.{behind_ends};
 
-/// Whether the body of an answer is sent.
+/// Says whether the body of an answer is sent.
 #[derive(Clone, Copy, Debug, PartialEq, Eq)]
 pub enum Body {
-    /// It is.
+    /// The body is sent.
     Sent,
-    /// It isn't: the request is HEAD (RFC 9110, section 9.3.2).
+    /// The body is left out, because the request is HEAD (RFC 9110, section 9.3.2).
     LeftOut,
 }
 
 impl Body {
-    /// Whether the body of an answer to this head, or front of one, is sent.
+    /// Returns whether the answer to this head, or prefix of a head, has its body sent.
     pub fn of(head: &[u8]) -> Body
         ensures { (result ≡ LeftOut) ↔ AsksForHead head.now }
     {
@@ -26,7 +26,7 @@ impl Body {
         }
     }
 
-    /// What is sent of a whole answer: all of it, or all up to and with its first empty line.
+    /// Returns the part of an answer that is sent: all of it, or everything up to and including its first empty line.
     pub fn part(self, answer: &[u8]) -> &[u8]
         ensures { IsPart self answer.now result.now }
     {
@@ -37,7 +37,7 @@ impl Body {
     }
 }
 
-// What stands behind the line ends in front.
+// Returns the bytes after the leading line ends.
 fn behind_ends(bytes: &[u8]) -> &[u8]
     ensures { result.now ≡ behind_ends bytes.now }
 {
@@ -49,7 +49,7 @@ fn behind_ends(bytes: &[u8]) -> &[u8]
     &[]
 }
 
-// All up to and with the first empty line; all where there is none.
+// Returns everything up to and including the first empty line, or all bytes if there is none.
 fn head_of(answer: &[u8]) -> &[u8]
     ensures { IsPart Body.LeftOut answer.now result.now }
 {

@@ -1,4 +1,4 @@
-//! A channel: the server's side of a web socket after its handshake.
+//! A channel: the server's side of a web socket after the handshake.
 
 ghost use Rattle.std.specs.Prelude.{◌≡◌, ◌≢◌, ◌≤◌, ◌<◌, ◌++◌, ◌∷◌, ℕ, List, [], length, drop, true, false, Err};
 ghost use Rattle.std.specs.Prelude.{IsErr, IfOk, IfErr, OnOk, OnErr, IfSome, option_map};
@@ -25,11 +25,11 @@ use websocket::protocol::{
     WebSocketContext,
 };
 
-/// The most bytes that a message of the client may have, and each of its frames.
+/// The greatest length of a client's message, and of each of its frames, in bytes.
 pub const MOST_MESSAGE: usize = 4096;
 
-/// The server's side of a web socket after its handshake: it does no input or output itself. It keeps at most what
-/// came of one frame and of one message, besides the bytes that it is fed.
+/// The server's side of a web socket after the handshake. It does no input or output itself. It keeps at most one frame
+/// and one message, besides the bytes that it is fed.
 #[derive(Drop)]
 pub struct Channel {
     context: WebSocketContext,
@@ -50,7 +50,7 @@ impl Model for Channel {
 }
 
 impl Channel {
-    /// A channel to which nothing came.
+    /// Returns a channel in its initial state.
     pub fn new(alloc: Global) -> Channel
         ensures stands { StandsAfter result [] }
         ensures conn { result.conn ≡ new_connection }
@@ -67,17 +67,17 @@ impl Channel {
         }
     }
 
-    /// Whether it takes nothing more.
+    /// Returns whether the channel has ended and accepts no more bytes.
     pub fn ended(&self) -> bool
         ensures { result ≡ self.now.has_ended }
     {
         self.has_ended
     }
 
-    /// Takes in the next bytes of the connection. The text messages that are whole now are added to `typed`, each with
-    /// LF after it, and the frames that are due as replies to `replies`: pongs, the close that answers a close, and
-    /// the close that an error asks for (RFC 6455, sections 5.5 and 7.1.7). After an error the channel takes nothing
-    /// more. Where the error is out of memory, `typed` and `replies` are of no use.
+    /// Consumes the next bytes of the connection. Appends each text message that they complete to `typed`, followed by
+    /// LF. Appends the frames that are due as replies to `replies`: pongs, the close that answers a close, and the
+    /// close that an error calls for (RFC 6455, sections 5.5 and 7.1.7). After an error the channel accepts no more
+    /// bytes. If the error is out of memory, the caller must discard `typed` and `replies`.
     pub fn feed(
         &mut self,
         bytes: &[u8],
@@ -105,7 +105,7 @@ impl Channel {
         }
     }
 
-    // Takes in bytes where it has not ended.
+    // Consumes bytes on a channel that has not ended.
     fn read_all(
         &mut self,
         bytes: &[u8],
@@ -133,7 +133,7 @@ impl Channel {
         Err(Fault::OutOfMemory)
     }
 
-    // Takes the frame at the front of what is unread, if it is whole.
+    // Consumes the first unread frame, if it is complete.
     fn step(&mut self, typed: &mut Vec<u8>, replies: &mut Vec<u8>) -> Result<bool, Fault>
         ensures took { IfOk result (Steps self.old self.new typed.old.items typed.new.items
             replies.old.items replies.new.items) }
@@ -160,7 +160,7 @@ impl Channel {
         }
     }
 
-    // Adds the close that a fault asks for; the fault, or out of memory.
+    // Appends the close frame that a fault calls for. Returns the fault, or out of memory.
     fn fail(&mut self, fault: Fault, replies: &mut Vec<u8>) -> Fault
         requires { IsNoEnd fault }
         ensures over { IfOver result (λ e. (fault ≡ Over e)
@@ -180,9 +180,9 @@ impl Channel {
         }
     }
 
-    /// Adds a text to `out`, as text messages of one frame each; no text, no frame. A message has at most [`MOST_SENT`]
-    /// bytes: a longer text is cut behind the last LF that it can hold, or at the limit where it holds none. The text
-    /// is to be ASCII. Where a close was sent or received, nothing is sent. After an error nothing has changed.
+    /// Appends a text to `out` as text messages of one frame each; the empty text gives no frame. A message has at most
+    /// [`MOST_SENT`] bytes. A longer text is cut after the last LF that fits, or at the limit if none fits. The text
+    /// must be ASCII. Nothing is sent once a close was sent or received. An error leaves everything unchanged.
     pub fn send(&mut self, text: &[u8], out: &mut Vec<u8>) -> Result<(), SendFault>
         ensures ok { OnOk result (out.new.items ≡ out.old.items ++ frames_of text.now) }
         ensures same { self.new ≡ self.old }
@@ -210,7 +210,7 @@ impl Channel {
         }
     }
 
-    // Adds the messages of a text. After an error some of them may stand there.
+    // Appends the messages of a text. An error may leave some of them in `out`.
     fn send_messages(&mut self, text: &[u8], out: &mut Vec<u8>) -> Result<(), SendFault>
         requires { IsAscii text.now }
         ensures ok { OnOk result (out.new.items ≡ out.old.items ++ frames_of text.now) }
@@ -228,7 +228,7 @@ impl Channel {
         Ok(())
     }
 
-    // Adds one message.
+    // Appends one message.
     fn send_message(&mut self, text: &[u8], out: &mut Vec<u8>) -> Result<(), SendFault>
         requires ascii { IsAscii text.now }
         requires some { 0 < length text.now }
@@ -248,9 +248,9 @@ impl Channel {
         }
     }
 
-    /// Adds the close frame of an ending to `out`, unless a close was sent already (RFC 6455, section 5.5.1). The
-    /// channel takes nothing more then: what the other side still types is not looked at. The only error is out of
-    /// memory, and nothing is added then.
+    /// Appends the close frame of an ending to `out`, unless a close was sent already (RFC 6455, section 5.5.1). From
+    /// then on the channel accepts no more bytes and ignores later input. The only error is out of memory, and it
+    /// appends nothing.
     pub fn close(&mut self, ending: Ending, out: &mut Vec<u8>) -> Result<(), AllocError>
         ensures ok { OnOk result (out.new.items ≡ out.old.items ++ closes_once self.old.conn.state ending) }
         ensures done { OnOk result (IsDoneSending self.new.conn.state) }
@@ -261,7 +261,7 @@ impl Channel {
         self.send_close(ending, out)
     }
 
-    // Adds the close frame of an ending, unless one was sent already.
+    // Appends the close frame of an ending, unless a close was sent already.
     fn send_close(&mut self, ending: Ending, out: &mut Vec<u8>) -> Result<(), AllocError>
         ensures ok { OnOk result (out.new.items ≡ out.old.items ++ closes_once self.old.conn.state ending) }
         ensures done { OnOk result (IsDoneSending self.new.conn.state) }
@@ -279,7 +279,7 @@ impl Channel {
     }
 }
 
-// The text of a message that is one.
+// Returns the text of a received text message.
 fn text_of<'a>(received: &'a Received, input: &'a [u8]) -> Option<&'a str>
     requires inside { IsReceivedInside input.now received.now }
     requires valid { HasValidText (received_content input.now received.now) }
@@ -291,7 +291,7 @@ fn text_of<'a>(received: &'a Received, input: &'a [u8]) -> Option<&'a str>
     }
 }
 
-// Adds what the message of a step types.
+// Appends the text of the step's message, if it has one.
 fn type_message(typed: &mut Vec<u8>, step: Step, input: &[u8]) -> Result<(), AllocError>
     requires inside { IfSome step.message (IsReceivedInside input.now) }
     requires valid { IfSome step.message (λ m. HasValidText (received_content input.now m)) }
@@ -307,7 +307,7 @@ fn type_message(typed: &mut Vec<u8>, step: Step, input: &[u8]) -> Result<(), All
     }
 }
 
-// Takes so many bytes off the front.
+// Removes the first `count` bytes.
 fn drop_front(unread: &mut Vec<u8>, count: usize)
     requires { count ≤ length unread.old.items }
     ensures { unread.new.items ≡ drop count unread.old.items }
@@ -315,7 +315,7 @@ fn drop_front(unread: &mut Vec<u8>, count: usize)
     unread.drain(..count);
 }
 
-// Adds a text, and LF.
+// Appends a text and LF.
 fn type_line(typed: &mut Vec<u8>, text: &[u8]) -> Result<(), AllocError>
     ensures { OnOk result (typed.new.items ≡ typed.old.items ++ (text.now ++ LF ∷ [])) }
 {

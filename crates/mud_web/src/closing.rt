@@ -1,4 +1,4 @@
-//! How the server closes a web socket.
+//! The endings of a web socket.
 
 ghost use Rattle.std.specs.Prelude.{◌≡◌, ◌++◌, [], true, Some, OnOk};
 ghost use Rattle.websocket.specs.Handshake.{response_bytes};
@@ -11,30 +11,30 @@ use std::alloc::AllocError;
 use websocket::error::Error;
 use websocket::protocol::CloseCode;
 
-/// Why the server closes a web socket: the codes of RFC 6455, section 7.4.1, that it sends, and 1013 ("try again
+/// The reason why the server closes a web socket. The codes are those of RFC 6455, section 7.4.1, and 1013 ("try again
 /// later") of the registry that section 11.7 sets up.
 #[derive(Clone, Copy, Debug, PartialEq, Eq)]
 pub enum Ending {
-    /// 1000: the session was ended by `quit`.
+    /// 1000: `quit` ended the session.
     Normal,
-    /// 1001: the server ends.
+    /// 1001: the server is shutting down.
     GoingAway,
-    /// 1002: the client broke a rule of the protocol, as by a frame without a mask.
+    /// 1002: the client broke a rule of the protocol, for example by a frame without a mask.
     ProtocolError,
     /// 1007: the text of a message is not UTF-8.
     InvalidData,
     /// 1009: a message or a frame is over the limit.
     TooBig,
-    /// 1011: memory ran out, or the server can't go on for another reason of its own.
+    /// 1011: the server is out of memory, or can't continue for another reason of its own.
     InternalError,
     /// 1013, `server full`: no place is free.
     ServerFull,
-    /// 1013, `too many sessions`: the address has as many sessions as it may have.
+    /// 1013, `too many sessions`: the address has reached its limit of sessions.
     TooManySessions,
 }
 
 impl Ending {
-    /// The code that is sent.
+    /// Returns the close code.
     pub fn code(self) -> CloseCode
         ensures { result ≡ code_of self }
     {
@@ -49,7 +49,7 @@ impl Ending {
         }
     }
 
-    /// The reason that is sent with the code, for people to read; empty where the code says all.
+    /// Returns the reason that is sent with the code, for people to read. It is empty if the code says everything.
     pub fn reason(self) -> &'static str
         ensures { result.now ≡ reason_of self }
     {
@@ -60,7 +60,7 @@ impl Ending {
         }
     }
 
-    /// The ending that an error of the protocol asks for: none after the close of the other side.
+    /// Returns the ending that a protocol error calls for. After the other side's close there is none.
     pub fn of(error: Error) -> Option<Ending>
         ensures { result ≡ ending_of error }
     {
@@ -74,8 +74,8 @@ impl Ending {
     }
 }
 
-/// Adds the answer to a head that asks to play, and at once the close frame of an ending: so the page learns why nobody
-/// plays by it, which a script can't read from another status than 101. The only error is out of memory.
+/// Appends the answer to a head that asks to play, and right after it the close frame of an ending. A script in the
+/// page can read the reason of a close, but not the status of a failed handshake. The only error is out of memory.
 pub fn write_turned_away(
     accept: &[u8; 28],
     ending: Ending,

@@ -1,19 +1,19 @@
-//! Why a channel takes no more, and why a text is not sent.
+//! The faults of a channel.
 
 use std::alloc::AllocError;
 use thiserror::Error;
 use websocket::error;
 
-/// Why a channel takes no more bytes.
+/// The reason why a channel accepts no more bytes.
 #[derive(Clone, Copy, Debug, PartialEq, Eq, Error)]
 pub enum Fault {
-    /// Memory ran out.
+    /// An allocation failed.
     #[error("out of memory")]
     OutOfMemory,
-    /// The other side closed, or broke a rule of the protocol or a limit.
+    /// The other side closed the web socket, or broke a rule of the protocol or a limit.
     #[error("the web socket has ended")]
     Over(error::Error),
-    /// The channel had ended already.
+    /// The channel had already ended.
     #[error("ended already")]
     Ended,
 }
@@ -29,16 +29,16 @@ impl From<AllocError> for Fault {
     }
 }
 
-/// Why a text is not sent.
+/// The reason why a text is not sent.
 #[derive(Clone, Copy, Debug, PartialEq, Eq, Error)]
 pub enum SendFault {
-    /// Memory ran out.
+    /// An allocation failed.
     #[error("out of memory")]
     OutOfMemory,
-    /// The text is not ASCII. A text message is UTF-8 (RFC 6455, section 5.6), and ASCII may be cut anywhere.
+    /// The text is not ASCII. A text message is UTF-8 (RFC 6455, section 5.6), and only ASCII may be cut anywhere.
     #[error("not ASCII")]
     NotText,
-    /// A close was sent or received: no message may follow it (RFC 6455, section 5.5.1).
+    /// A close was sent or received. No message may follow it (RFC 6455, section 5.5.1).
     #[error("closed")]
     Closed,
 }

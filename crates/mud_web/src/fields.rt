@@ -1,4 +1,4 @@
-//! The fields of a head, by their names.
+//! Finds the fields of a head by name.
 
 ghost use Rattle.std.specs.Prelude.{◌≡◌, ◌↔◌, ◌++◌, ◌∷◌, ℕ, List, [], length, All, IsTrue, codes, true};
 ghost use Rattle.std.specs.List.{list_any};
@@ -9,18 +9,18 @@ ghost use Rattle.mud_web.specs.inner.Found.{IsFound};
 
 use httparse::spans::HeaderSpan;
 
-/// What there is of a field.
+/// The result of looking for a field.
 #[derive(Clone, Copy)]
 pub enum Found<'b> {
-    /// None has the name.
+    /// No field has the name.
     Nothing,
-    /// One has it, with this value.
+    /// One field has the name, and this is its value.
     One(&'b [u8]),
-    /// Several have it.
+    /// Several fields have the name.
     Several,
 }
 
-/// What there is of the field with this name, whatever the case of its letters.
+/// Finds the field with this name, ignoring case.
 pub fn find<'b>(head: &'b [u8], spans: &[HeaderSpan], name: &[u8]) -> Found<'b>
     requires { All (IsHeaderWithin (length head.now)) spans.now }
     ensures { IsFound result (values (fields_of head.now spans.now) name.now) }
@@ -32,7 +32,7 @@ pub fn find<'b>(head: &'b [u8], spans: &[HeaderSpan], name: &[u8]) -> Found<'b>
     found
 }
 
-/// Whether one has the name, and its value is this one.
+/// Returns whether exactly one field has the name, and has this value.
 pub fn is_one(found: Found<'_>, wanted: &[u8]) -> bool
     ensures { (values : List (List ℕ)) → IsFound found.entry values
         → IsTrue result ↔ (values ≡ wanted.now ∷ []) }
@@ -43,7 +43,7 @@ pub fn is_one(found: Found<'_>, wanted: &[u8]) -> bool
     }
 }
 
-// What there is after one more field.
+// Returns the result after one more field.
 fn see<'b>(found: Found<'b>, head: &'b [u8], header: &HeaderSpan, name: &[u8]) -> Found<'b>
     requires { IsHeaderWithin (length head.now) header.now }
     ensures { (before : List (List ℕ)) → IsFound found.entry before
@@ -56,7 +56,7 @@ fn see<'b>(found: Found<'b>, head: &'b [u8], header: &HeaderSpan, name: &[u8]) -
     }
 }
 
-// What there is after one more field with the name.
+// Returns the result after one more field with the name.
 fn after<'b>(found: Found<'_>, value: &'b [u8]) -> Found<'b>
     ensures { (before : List (List ℕ)) → IsFound found.entry before
         → IsFound result (before ++ value.now ∷ []) }
@@ -67,8 +67,8 @@ fn after<'b>(found: Found<'_>, value: &'b [u8]) -> Found<'b>
     }
 }
 
-/// Whether a list in the fields with this name has this member, whatever the case of letters (RFC 9110, section
-/// 5.6.1). Several fields are one list (section 5.3).
+/// Returns whether the list in the fields with this name has this member, ignoring case (RFC 9110, section 5.6.1).
+/// Several fields form one list (section 5.3).
 pub fn has_member(head: &[u8], spans: &[HeaderSpan], name: &[u8], wanted: &[u8]) -> bool
     requires { All (IsHeaderWithin (length head.now)) spans.now }
     ensures { result ≡ has_member (fields_of head.now spans.now) name.now wanted.now }
@@ -80,7 +80,7 @@ pub fn has_member(head: &[u8], spans: &[HeaderSpan], name: &[u8], wanted: &[u8])
     has
 }
 
-// Whether a field has this name, and this member.
+// Returns whether a field has this name and this member.
 fn is_listed_in(head: &[u8], header: &HeaderSpan, name: &[u8], wanted: &[u8]) -> bool
     requires { IsHeaderWithin (length head.now) header.now }
     ensures { result ≡ has_member (header_bytes head.now header.now ∷ []) name.now wanted.now }
@@ -88,7 +88,7 @@ fn is_listed_in(head: &[u8], header: &HeaderSpan, name: &[u8], wanted: &[u8]) ->
     is_named(header.name.of(head), name) && is_listed(header.value.of(head), wanted)
 }
 
-// Whether a list has this member.
+// Returns whether a list has this member.
 fn is_listed(value: &[u8], wanted: &[u8]) -> bool
     ensures { result ≡ list_any (λ m. eq_ignore_case m wanted.now) (members_of value.now) }
 {
@@ -97,14 +97,14 @@ fn is_listed(value: &[u8], wanted: &[u8]) -> bool
         .any(|member| is_named(trimmed(member), wanted))
 }
 
-// A text without the white space at both ends.
+// Returns a text without the white space at both ends.
 fn trimmed(text: &[u8]) -> &[u8]
     ensures { result.now ≡ trim text.now }
 {
     text.trim_ascii()
 }
 
-// Whether the two are equal but for the case of letters.
+// Returns whether the two names are equal, ignoring case.
 fn is_named(name: &[u8], wanted: &[u8]) -> bool
     ensures { result ≡ eq_ignore_case name.now wanted.now }
 {

@@ -1,5 +1,5 @@
-//! Whether a connection begins as a browser's does: with the first line of a request of HTTP (RFC 9112, section 3). A
-//! page of any origin can have a browser send a request to any port, and what stands in its body would be typed there.
+//! Detects an HTTP request on the Telnet port by its first line (RFC 9112, section 3). A page of any origin can make a
+//! browser send a request to any port, and the body of the request would be typed as commands.
 
 ghost use Rattle.std.specs.Prelude.{◌≡◌, ◌==◌, ◌↔◌, ◌++◌, ℕ, List, [], IsTrue, if◌then◌else◌};
 ghost use Rattle.std.specs.List.{fold};
@@ -8,29 +8,29 @@ ghost use Rattle.mud_web.specs.inner.Places.{begins_blank, next, next_blank, is_
 
 const SPACE: u8 = b' ';
 
-/// What the bytes that came so far say of a connection.
+/// The verdict on the bytes that a connection received so far.
 #[derive(Clone, Copy, Debug, PartialEq, Eq)]
 pub enum Verdict {
-    /// Its first line may still become that of a request.
+    /// The first line may still become the first line of a request.
     Undecided,
-    /// It begins with the first line of a request.
+    /// The connection begins with the first line of a request.
     Request,
-    /// Whatever follows, it does not.
+    /// The connection does not begin with a request, whatever follows.
     NoRequest,
 }
 
-// How far a connection has come in the form of a request's first line.
+// The position in the first line of a request.
 #[derive(Clone, Copy, Debug, PartialEq, Eq)]
 enum Place {
-    // Line ends, or nothing.
+    // After line ends only, or at the start.
     Blank,
-    // In the word.
+    // In the method.
     Word,
-    // After the space behind the word.
+    // After the space that follows the method.
     BehindWord,
     // In the target.
     Target,
-    // After the space behind the target, and so many of the letters of `HTTP/`.
+    // After the space that follows the target and this many letters of `HTTP/`.
     BehindTarget,
     H,
     Ht,
@@ -40,18 +40,18 @@ enum Place {
     Slash,
     // After the digit.
     Request,
-    // Out of the form.
+    // Not the first line of a request.
     Other,
 }
 
-/// The first line of a connection, in whatever pieces it comes. It keeps its place in the form, and no text.
+/// A detector for the first line of a connection, however the stream is cut. It keeps only a position, and no text.
 #[derive(Clone, Copy, Debug, PartialEq, Eq)]
 pub struct FirstLine {
     place: Place,
 }
 
 impl FirstLine {
-    /// The first line of a connection on which nothing came.
+    /// Returns a detector for a connection that received nothing yet.
     pub fn new() -> FirstLine
         ensures { StandsAfter result [] }
     {
@@ -60,8 +60,8 @@ impl FirstLine {
         }
     }
 
-    /// Takes in the next bytes of the connection, and says what all bytes so far say of it. Line ends in front of the
-    /// first line are passed over (RFC 9112, section 2.2). Once it is a request or none, it stays so.
+    /// Consumes the next bytes of the connection, and returns the verdict on all bytes so far. Line ends before the
+    /// first line are skipped (RFC 9112, section 2.2). A verdict other than `Undecided` is final.
     pub fn feed(&mut self, bytes: &[u8]) -> Verdict
         ensures stands { (earlier : List ℕ) → StandsAfter self.old earlier
             → StandsAfter self.new (earlier ++ bytes.now) }
@@ -73,15 +73,15 @@ impl FirstLine {
     }
 }
 
-/// Whether a line has the form of the first line of a request: a word of letters, a space, a target of visible
-/// characters, a space, and `HTTP/` with a digit. Anything may follow.
+/// Returns whether a line begins as the first line of a request: letters, a space, a target of visible characters, a
+/// space, `HTTP/` and a digit. Anything may follow.
 pub fn is_request_line(line: &[u8]) -> bool
     ensures { IsTrue result ↔ IsRequestLine line.now }
 {
     !begins_blank(line) && is_request(place_after(Place::Blank, line))
 }
 
-// Whether a line end stands in front.
+// Returns whether the bytes begin with a line end.
 fn begins_blank(line: &[u8]) -> bool
     ensures { result ≡ begins_blank line.now }
 {
@@ -91,14 +91,14 @@ fn begins_blank(line: &[u8]) -> bool
     }
 }
 
-// Whether the form has come up to its digit.
+// Returns whether the form has been read up to its digit.
 fn is_request(place: Place) -> bool
     ensures { result ≡ is_request place }
 {
     matches!(place, Place::Request)
 }
 
-// What a place says.
+// Returns the verdict at a position.
 fn verdict_at(place: Place) -> Verdict
     ensures { result ≡ verdict_at place }
 {
@@ -109,7 +109,7 @@ fn verdict_at(place: Place) -> Verdict
     }
 }
 
-// The place after these bytes.
+// Returns the position after these bytes.
 fn place_after(place: Place, bytes: &[u8]) -> Place
     ensures { result ≡ fold next place bytes.now }
 {
@@ -120,7 +120,7 @@ fn place_after(place: Place, bytes: &[u8]) -> Place
     so_far
 }
 
-// The place after one more byte.
+// Returns the position after one more byte.
 fn next(place: Place, byte: u8) -> Place
     ensures { result ≡ next place byte }
 {
@@ -145,7 +145,7 @@ fn next(place: Place, byte: u8) -> Place
     }
 }
 
-// The place after a byte that is no letter, where only line ends came before.
+// Returns the position after a byte that is not a letter, while only line ends came before it.
 fn next_blank(byte: u8) -> Place
     ensures { result ≡ next_blank byte }
 {
@@ -155,7 +155,7 @@ fn next_blank(byte: u8) -> Place
     }
 }
 
-// The place where the byte is the wanted one; else out of the form.
+// Returns the position if the byte is the expected one, or `Other`.
 fn if_is(byte: u8, wanted: u8, place: Place) -> Place
     ensures { result ≡ (if byte == wanted then place else Place.Other) }
 {

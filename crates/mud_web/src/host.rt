@@ -6,47 +6,47 @@ ghost use Rattle.websocket.specs.Headers.{eq_ignore_case};
 ghost use Rattle.mud_web.specs.Targets.{IsHost, IsSite, Names, is_host_byte, is_literal_byte, IsBehind};
 ghost use Rattle.mud_web.specs.inner.HostPlaces.{next, is_end};
 
-// How far a text has come in the form of a host.
+// The position inside the form of a host.
 #[derive(Clone, Copy)]
 enum HostPlace {
     // Before its first byte.
     Start,
     // In a name.
     Name,
-    // After the bracket that begins an address.
+    // After the opening bracket of an address.
     Open,
     // In an address.
     Literal,
-    // After the bracket that ends it.
+    // After the closing bracket.
     Shut,
     // In a port, or after its colon.
     Port,
-    // Out of the form.
+    // Not a host.
     Other,
 }
 
-/// Whether a text has the form of a host: a name, or an address in brackets, and maybe a port.
+/// Returns whether a text has the form of a host: a name or an address in brackets, and optionally a port.
 pub fn is_host(text: &[u8]) -> bool
     ensures { IsTrue result ↔ IsHost text.now }
 {
     is_end(place_after(text))
 }
 
-/// Whether a target names this path: it is the path, or has the absolute form with it.
+/// Returns whether a target names this path: it is the path itself, or has the absolute form with the path.
 pub fn names(target: &[u8], path: &[u8]) -> bool
     ensures { IsTrue result ↔ Names target.now path.now }
 {
     target == path || names_absolutely(target, path)
 }
 
-/// Whether a text is what stands before the path in the absolute form: `http` or `https`, `://` and a host.
+/// Returns whether a text is the part of the absolute form before the path: `http` or `https`, `://` and a host.
 pub fn is_site(text: &[u8]) -> bool
     ensures { IsTrue result ↔ IsSite text.now }
 {
     is_behind(text, b"http://") || is_behind(text, b"https://")
 }
 
-// Whether a target has the absolute form with this path.
+// Returns whether a target has the absolute form with this path.
 fn names_absolutely(target: &[u8], path: &[u8]) -> bool
     ensures { IsTrue result ↔ ((site : List ℕ) × IsSite site × (target.now ≡ site ++ path.now)) }
 {
@@ -57,7 +57,7 @@ fn names_absolutely(target: &[u8], path: &[u8]) -> bool
     rest == path && is_site(site)
 }
 
-// Whether a text is this start, whatever the case of its letters, and a host.
+// Returns whether a text is this start, ignoring case, followed by a host.
 fn is_behind(text: &[u8], start: &[u8]) -> bool
     ensures { IsTrue result ↔ IsBehind start.now text.now }
 {
@@ -68,14 +68,14 @@ fn is_behind(text: &[u8], start: &[u8]) -> bool
     front.eq_ignore_ascii_case(start) && is_host(host)
 }
 
-// Whether a host may end at this place.
+// Returns whether a host may end at this position.
 fn is_end(place: HostPlace) -> bool
     ensures { result ≡ is_end place }
 {
     matches!(place, HostPlace::Name | HostPlace::Shut | HostPlace::Port)
 }
 
-// The place after a text.
+// Returns the position after a text.
 fn place_after(text: &[u8]) -> HostPlace
     ensures { result ≡ fold next HostPlace.Start text.now }
 {
@@ -86,7 +86,7 @@ fn place_after(text: &[u8]) -> HostPlace
     place
 }
 
-// The place after one more byte.
+// Returns the position after one more byte.
 fn next(place: HostPlace, byte: u8) -> HostPlace
     ensures { result ≡ next place byte }
 {
@@ -102,14 +102,14 @@ fn next(place: HostPlace, byte: u8) -> HostPlace
     }
 }
 
-// Whether a byte may stand in an address.
+// Returns whether a byte may occur in an address.
 fn is_literal_byte(byte: u8) -> bool
     ensures { result ≡ is_literal_byte byte }
 {
     byte == b':' || is_host_byte(byte)
 }
 
-// Whether a byte may stand in a name.
+// Returns whether a byte may occur in a name.
 fn is_host_byte(byte: u8) -> bool
     ensures { result ≡ is_host_byte byte }
 {

@@ -1,4 +1,4 @@
-//! Laws of the definitions: each contract is a law, and its function does nothing.
+//! Laws of the definitions. Each contract is a law, and its function does nothing.
 
 ghost use Rattle.std.specs.Prelude.{◌≡◌};
 ghost use Rattle.mud_web.specs.declared.asking.TheConstants.{MOST_HEAD, MOST_FIELDS};
@@ -9,47 +9,48 @@ ghost use Rattle.mud_web.specs.Laws.{Messages, TextsArrive, MessagesType, Nothin
 ghost use Rattle.mud_web.specs.Laws.{OnlyLinesAreTyped};
 ghost use Rattle.mud_web.specs.Laws.{UndecidedEndsNoLine};
 
-/// The messages as which a text leaves are the text, one behind the other. None is empty, none has more than
-/// [`MOST_SENT`](crate::MOST_SENT) bytes, and each is cut behind the last line end that it can hold.
+/// The messages of a text concatenate to the text. Each is non-empty, has at most [`MOST_SENT`](crate::MOST_SENT)
+/// bytes, and is cut after the last line end that fits.
 pub fn messages()
     ensures { Messages }
 {}
 
-/// A text that leaves is read by the other side as those messages, one text message each, and nothing else.
+/// The other side reads a sent text as exactly those messages, one text message each.
 pub fn texts_arrive()
     ensures { TextsArrive }
 {}
 
-/// A text message that the other side writes as one frame, under any mask, types that text and LF.
+/// A text message that the other side sends as one frame, under any mask, types that text and LF.
 pub fn messages_type()
     ensures { MessagesType }
 {}
 
-/// Whatever comes over a web socket, it types no byte 255, with which every command of Telnet begins: text messages
-/// are UTF-8 (RFC 6455, section 8.1), and UTF-8 has no such byte.
+/// No input of a web socket types the byte 255, which begins every Telnet command. Text messages are UTF-8 (RFC 6455,
+/// section 8.1), and UTF-8 never contains that byte.
 pub fn nothing_commands()
     ensures { NothingCommands }
 {}
 
-/// So all that it gives a session are lines, some of them too long: a session on the web is never asked whether it is
-/// there, and never sends an answer of Telnet.
+/// So a web socket feeds only lines to its session, some of them too long. A session on the web never receives AYT, and
+/// never sends a Telnet answer.
 pub fn only_lines_are_typed()
     ensures { OnlyLinesAreTyped }
 {}
 
-/// While it is undecided whether a connection begins with a request, no line with something in it has come whole: so
-/// who takes the bytes in as they come plays nothing of a request.
+/// While it is undecided whether a connection begins with a request, no non-empty line is complete. So a caller that
+/// executes lines as they come executes nothing of a request.
 pub fn undecided_ends_no_line()
     ensures { UndecidedEndsNoLine }
 {}
 
-/// The limits: of the bytes and the fields of a head, of a message that comes, and of one that leaves.
+/// Promises the limits: the length and the number of fields of a head, and the lengths of received and of sent
+/// messages.
 pub fn limits()
     ensures heads { (MOST_HEAD ≡ 8192) × (MOST_FIELDS ≡ 64) }
     ensures messages { (MOST_MESSAGE ≡ 4096) × (MOST_SENT ≡ 65_536) }
 {}
 
-/// The space between the words of a request.
+/// Promises the value of the space between the words of a request.
 pub fn codes()
     ensures { SPACE ≡ 32 }
 {}

@@ -1,4 +1,4 @@
-//! A door on the web, without a socket: what a browser asks for, and the frames of its web socket.
+//! The web protocol of the server, without a socket: requests of browsers, and the frames of web sockets.
 #![tactic(auto)]
 
 mod asking;

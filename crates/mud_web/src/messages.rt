@@ -1,13 +1,13 @@
-//! Where a text is cut into messages.
+//! Cuts a text into messages.
 
 ghost use Rattle.std.specs.Prelude.{◌≡◌, ◌≤◌, ◌<◌, length};
 ghost use Rattle.mud_web.specs.inner.Cuts.{IsLastEnd, first_len};
 
-/// The most bytes that a message of the server has. Clients refuse messages over a limit of their own (RFC 6455,
+/// The greatest length of a sent message, in bytes. Clients refuse messages above a limit of their own (RFC 6455,
 /// section 10.4), which is rarely below this one.
 pub const MOST_SENT: usize = 65_536;
 
-/// How long the first message of a text is: all that fits, up to the last LF where more follows.
+/// Returns the length of a text's first message: the whole text if it fits, and otherwise as many whole lines as fit.
 pub fn message_len(text: &[u8]) -> usize
     ensures value { result ≡ first_len text.now }
     ensures within { result ≤ length text.now }
@@ -22,7 +22,7 @@ pub fn message_len(text: &[u8]) -> usize
     }
 }
 
-// How many bytes stand up to and with the last LF.
+// Returns the number of bytes up to and including the last LF.
 fn last_end(bytes: &[u8]) -> usize
     ensures { IsLastEnd bytes.now result }
 {

@@ -1,4 +1,4 @@
-//! The requests that are refused, and how.
+//! The requests that are refused, and the answers to them.
 
 ghost use Rattle.std.specs.Prelude.{◌≡◌, ◌++◌, OnOk};
 ghost use Rattle.mud_web.specs.Responses.{status_of, connection_of, field_of, body_of, status_line};
@@ -7,27 +7,27 @@ ghost use Rattle.mud_web.specs.Responses.{shown_of, fields_of, head_of, body_byt
 use crate::body::Body;
 use std::alloc::AllocError;
 
-/// Why a request is refused: the statuses of RFC 9110, section 15, and of RFC 6585, section 5, that the server answers.
+/// The reason why a request is refused: a status of RFC 9110, section 15, or of RFC 6585, section 5.
 #[derive(Clone, Copy, Debug, PartialEq, Eq)]
 pub enum Refusal {
-    /// 400: no request, no host or two, or no upgrade to a web socket.
+    /// 400: not a request, no host or two of them, or no upgrade to a web socket.
     BadRequest,
-    /// 403: the page that asks to play is not the server's own.
+    /// 403: a page of another origin asks to play.
     Forbidden,
-    /// 404: neither the page nor where to play.
+    /// 404: the target is neither the page nor the web socket.
     NotFound,
-    /// 405: another method than GET and HEAD.
+    /// 405: the method is neither GET nor HEAD.
     MethodNotAllowed,
     /// 408: the head did not come in time.
     RequestTimeout,
-    /// 426: no upgrade to the one version of web sockets that there is.
+    /// 426: the request does not upgrade to the one supported version of web sockets.
     UpgradeRequired,
     /// 431: the head is too long, or has too many fields.
     TooLarge,
 }
 
 impl Refusal {
-    /// The status and its phrase.
+    /// Returns the status code and its phrase.
     pub fn status(self) -> &'static str
         ensures { result.now ≡ status_of self }
     {
@@ -42,7 +42,7 @@ impl Refusal {
         }
     }
 
-    // The field Connection. That of 426 names Upgrade, as its field Upgrade asks for (RFC 9110, section 7.8).
+    // Returns the field Connection. A 426 names Upgrade in it, because it has a field Upgrade (RFC 9110, section 7.8).
     fn connection(self) -> &'static str
         ensures { result.now ≡ connection_of self }
     {
@@ -52,7 +52,7 @@ impl Refusal {
         }
     }
 
-    // The fields that only this status has.
+    // Returns the fields that only this status has.
     fn field(self) -> &'static str
         ensures { result.now ≡ field_of self }
     {
@@ -63,7 +63,7 @@ impl Refusal {
         }
     }
 
-    // What is shown, up to the server's origin, which a 403 names.
+    // Returns the body up to the server's origin, which only a 403 shows.
     fn body(self) -> &'static str
         ensures { result.now ≡ body_of self }
     {
@@ -73,7 +73,7 @@ impl Refusal {
         }
     }
 
-    // What is shown of the server's origin.
+    // Returns the part of the server's origin that the body shows.
     fn shown(self, origin: &[u8]) -> &[u8]
         ensures { result.now ≡ shown_of self origin.now }
     {
@@ -83,8 +83,8 @@ impl Refusal {
         }
     }
 
-    /// Adds the answer of a server whose page has this origin to `out`. After it the connection is closed. The only
-    /// error is out of memory.
+    /// Appends the answer to `out`. `origin` is the origin of the server's page. The connection is closed after the
+    /// answer. The only error is out of memory.
     pub fn write(self, origin: &[u8], body: Body, out: &mut Vec<u8>) -> Result<(), AllocError>
         ensures { OnOk result (out.new.items ≡ out.old.items ++ refusal_bytes self origin.now body) }
     {
@@ -95,21 +95,21 @@ impl Refusal {
         }
     }
 
-    // Adds the body.
+    // Appends the body.
     fn write_body(self, origin: &[u8], out: &mut Vec<u8>) -> Result<(), AllocError>
         ensures { OnOk result (out.new.items ≡ out.old.items ++ body_bytes self origin.now) }
     {
         push_three(out, self.body().as_bytes(), self.shown(origin), b"\r\n")
     }
 
-    // Adds the status line.
+    // Appends the status line.
     fn write_status_line(self, out: &mut Vec<u8>) -> Result<(), AllocError>
         ensures { OnOk result (out.new.items ≡ out.old.items ++ status_line self) }
     {
         push_three(out, b"HTTP/1.1 ", self.status().as_bytes(), b"\r\n")
     }
 
-    // Adds the fields, and the empty line.
+    // Appends the fields and the empty line.
     fn write_fields(self, out: &mut Vec<u8>) -> Result<(), AllocError>
         ensures { OnOk result (out.new.items ≡ out.old.items ++ fields_of self) }
     {
@@ -124,7 +124,7 @@ impl Refusal {
         Ok(())
     }
 
-    // Adds the status line, the fields and the empty line.
+    // Appends the status line, the fields and the empty line.
     fn write_head(self, out: &mut Vec<u8>) -> Result<(), AllocError>
         ensures { OnOk result (out.new.items ≡ out.old.items ++ head_of self) }
     {
@@ -134,7 +134,7 @@ impl Refusal {
     }
 }
 
-// Adds three texts.
+// Appends three texts.
 fn push_three(out: &mut Vec<u8>, first: &[u8], middle: &[u8], last: &[u8]) -> Result<(), AllocError>
     ensures { OnOk result (out.new.items ≡ out.old.items ++ (first.now ++ middle.now ++ last.now)) }
 {

@@ -1,4 +1,4 @@
-//! Whether a head upgrades to a web socket (RFC 6455, section 4.2.1).
+//! Checks that a head upgrades to a web socket (RFC 6455, section 4.2.1).
 
 ghost use Rattle.std.specs.Prelude.{◌≡◌, ◌↔◌, ℕ, List, length, All, IsTrue, IfSome, IfNone, MatchOption, true, take};
 ghost use Rattle.std.specs.List.{list_all};
@@ -11,7 +11,7 @@ use crate::fields::{Found, find, has_member, is_one};
 use httparse::spans::HeaderSpan;
 use websocket::handshake::derive_accept_key;
 
-/// Whether the head asks for the version 13 of web sockets, and for no other.
+/// Returns whether the head asks for version 13 of web sockets, and for no other.
 pub fn has_version(head: &[u8], spans: &[HeaderSpan]) -> bool
     requires { All (IsHeaderWithin (length head.now)) spans.now }
     ensures { IsTrue result ↔ Has13 (fields_of head.now spans.now) }
@@ -19,7 +19,8 @@ pub fn has_version(head: &[u8], spans: &[HeaderSpan]) -> bool
     is_one(find(head, spans, b"Sec-WebSocket-Version"), b"13")
 }
 
-/// The answer to the key of a head that upgrades, by its fields Connection, Upgrade and Sec-WebSocket-Key.
+/// Returns the answer to the key of a head that upgrades, judged by its fields Connection, Upgrade and
+/// Sec-WebSocket-Key.
 pub fn answer_key(head: &[u8], spans: &[HeaderSpan]) -> Option<[u8; 28]>
     requires { All (IsHeaderWithin (length head.now)) spans.now }
     ensures { MatchOption result (¬ ((key : List ℕ) × AsksKey (fields_of head.now spans.now) key))
@@ -37,7 +38,7 @@ pub fn answer_key(head: &[u8], spans: &[HeaderSpan]) -> Option<[u8; 28]>
     }
 }
 
-// Whether a text is a base64 that decodes to 16 bytes.
+// Returns whether a text is base64 that decodes to 16 bytes.
 fn is_key(key: &[u8]) -> bool
     ensures { IsTrue result ↔ IsKey key.now }
 {
@@ -48,14 +49,14 @@ fn is_key(key: &[u8]) -> bool
     padding == b"==".as_slice() && are_symbols(symbols)
 }
 
-// Whether all bytes are symbols of base64.
+// Returns whether all bytes are symbols of base64.
 fn are_symbols(bytes: &[u8]) -> bool
     ensures { result ≡ list_all is_symbol bytes.now }
 {
     bytes.iter().all(|byte| is_symbol(*byte))
 }
 
-// Whether a byte is a symbol of base64.
+// Returns whether a byte is a symbol of base64.
 fn is_symbol(byte: u8) -> bool
     ensures { result ≡ is_symbol byte }
 {

@@ -14,7 +14,7 @@ use Rattle.mud_words.specs.Words.{without_front, spelled_out, words, is_blank}
 not_empty : {X : Type 0} (x : X) (xs : List X) → (length (x ∷ xs) == 0) ≡ false
 not_empty x xs = let some : 0 < length (x ∷ xs) = omega arith in grind (arith, nat_tests)
 
--- nothing is left of a blank line in front of its spaces
+-- a blank line is empty without its leading spaces
 pub is_blank-empty : (line : List ℕ) → (length (without_front line) == 0) ≡ is_blank line
 is_blank-empty [] = refl
 is_blank-empty (b ∷ bs) =
@@ -42,7 +42,7 @@ has_word : (p : Piece) (parts : List (List Piece)) → texts_of (onto_first p pa
 has_word p [] none = cc
 has_word p (part ∷ parts) none = cc
 
--- a line that begins with another character than a space has a word
+-- a line whose first character is not a space has a word
 begun : (mark : Bool) (c : ℕ) (ps : List Piece) → texts_of (slice_split is_gap (cond mark Mark (Char c) ∷ ps)) ≡ [] → ⊥
 begun true c ps none = has_word Mark (slice_split is_gap ps) none
 begun false c ps none = has_word (Char c) (slice_split is_gap ps) none
@@ -70,7 +70,7 @@ no_words (b ∷ bs) other = (
       absurd (spelled b bs (b == QUOTE) (b == COLON) (b == SEMICOLON) other none),
 )
 
--- and a line has no words just where it is blank
+-- so a line has no words exactly if it is blank
 pub words-empty : (line : List ℕ) → (IsTrue (length (without_front line) == 0)) ↔ (words line ≡ [])
 unfolding words
 words-empty line = no_words (without_front line) (bare line)

@@ -1,4 +1,4 @@
--- The preposition that is found word by word is the one that counts.
+-- The search word by word finds the preposition that counts.
 use Rattle.std.proofs.Common.{◌≡◌, ◌↔◌, ◌⊎◌, inl, inr, ℕ, zero, suc, ◌+◌, ◌<◌, ◌≤◌, ◌==◌, Bool, true, false, cond, ◌&&◌}
 use Rattle.std.proofs.Common.{◌||◌, List, [], ◌∷◌, ◌++◌, length, map, take, drop, get_or, filter, find, Contains}
 use Rattle.std.proofs.Common.{Option, Some, None, refl, sym, ap, subst, ◌∙◌, arith, rules, nat_le, add-one}
@@ -13,7 +13,7 @@ use Rattle.std.specs.Str.{str_to_ascii_lowercase as lower}
 use Rattle.mud_words.specs.Prepositions.{Phrase, Found, Stands, Counts, table, of_length, begins, phrase_at}
 use Rattle.mud_words.specs.Prepositions.{or_later, preposition_of}
 
--- a phrase is one of a list
+-- the list contains the phrase
 abbrev Among : List Phrase → Phrase → Type 0
 Among [] p = ⊥
 Among (q ∷ qs) p = (q ≡ p) ⊎ Among qs p
@@ -31,7 +31,7 @@ contains [] p h = absurd h
 contains (q ∷ qs) p (inl is) = (0, omega arith, is)
 contains (q ∷ qs) p (inr h) = let r = contains qs p h in (suc r.0, omega (arith, r.1), r.2)
 
--- the first that passes is one of the list and passes
+-- the first phrase that passes is in the list and passes
 first_step : (test : Phrase → Bool) (q : Phrase) (qs : List Phrase) (p : Phrase) (r : Option Phrase) (b : Bool)
     → test q ≡ b → cond b (Some q) r ≡ Some p → (r ≡ Some p → Among qs p × (test p ≡ true))
     → Among (q ∷ qs) p × (test p ≡ true)
@@ -44,7 +44,7 @@ found_first : (test : Phrase → Bool) (qs : List Phrase) (p : Phrase) → find 
 found_first test [] p is = cc
 found_first test (q ∷ qs) p is = first_step test q qs p (find test qs) (test q) refl is (λ h. found_first test qs p h)
 
--- where none is found none passes
+-- if none is found, none passes
 none_step : (test : Phrase → Bool) (q : Phrase) (qs : List Phrase) (p : Phrase) (r : Option Phrase) (b : Bool)
     → test q ≡ b → cond b (Some q) r ≡ None → Among (q ∷ qs) p → (r ≡ None → Among qs p → test p ≡ false)
     → test p ≡ false
@@ -56,7 +56,7 @@ found_none : (test : Phrase → Bool) (qs : List Phrase) (p : Phrase) → find t
 found_none test [] p is h = absurd h
 found_none test (q ∷ qs) p is h = none_step test q qs p (find test qs) (test q) refl is h (λ k. found_none test qs p k)
 
--- each phrase has as many words as any after it
+-- each phrase has at least as many words as any later one
 abbrev below : Phrase → List Phrase → Bool
 below q qs = list_all (λ p. nat_le (length p.words) (length q.words)) qs
 
@@ -91,7 +91,7 @@ longest_step test r rs p q o false t down is (inl same) passes more =
     absurd (false≢true (sym t ∙ subst (λ x. test x ≡ true) (sym same) passes))
 longest_step test r rs p q o false t down is (inr h) passes more = more is h
 
--- the first that passes is as long as any that passes, where lengths fall
+-- if lengths do not rise, the first phrase that passes is the longest that passes
 found_longest : (test : Phrase → Bool) (qs : List Phrase) (p q : Phrase) → falls qs ≡ true → find test qs ≡ Some p
     → Among qs q → test q ≡ true → length q.words ≤ length p.words
 found_longest test [] p q down is h passes = absurd h
@@ -100,7 +100,7 @@ found_longest test (r ∷ rs) p q down is h passes =
     longest_step test r rs p q (find test rs) (test r) refl parts.0 is h passes
     (λ k m. found_longest test rs p q parts.1 k m passes)
 
--- what is left of a list by a test has just those that pass
+-- filtering keeps exactly the phrases that pass
 kept_step : (test : Phrase → Bool) (q : Phrase) (qs kept : List Phrase) (p : Phrase) (b : Bool) → test q ≡ b
     → Among (q ∷ qs) p → test p ≡ true → (Among qs p → Among kept p) → Among (cond b (q ∷ kept) kept) p
 kept_step test q qs kept p true t (inl same) passes more = inl same
@@ -138,7 +138,7 @@ split [] qs p h = inr h
 split (r ∷ ps) qs p (inl same) = inl (inl same)
 split (r ∷ ps) qs p (inr h) = elim (split ps qs p h) [ inl k ↦ inl (inr k) | inr k ↦ inr k ]
 
--- each phrase of the table has one word to three
+-- each phrase of the table has one to three words
 abbrev has_length : ℕ → Phrase → Bool
 has_length n p = length p.words == n
 
@@ -184,7 +184,7 @@ from_length p h = elim (split (of_length 3 ++ of_length 2) (of_length 1) p h) [
   | inr k ↦ was (has_length 1) table p k
 ]
 
--- ---- a phrase stands at the front of a list of words
+-- ---- the words begin with a phrase
 abbrev Here : List (List ℕ) → Phrase → Type 0
 Here words p = Among table p × (map lower (take (length p.words) words) ≡ map lower p.words)
 
@@ -215,7 +215,7 @@ phrase_none words q is h =
     (sym (found_none (λ p. begins words p.words) by_length q is (to_length q h.0))
     ∙ (begins-Decides words q.words).1 h.1)
 
--- no phrase is without words, so none stands where no word is left
+-- every phrase has words, so an empty list of words has no phrase
 abbrev has_words : Phrase → Bool
 has_words p = nat_le 1 (length p.words)
 
@@ -236,7 +236,7 @@ nowhere k q h =
           (drop {A = List ℕ} k []),
     ))
 
--- ---- what the search says
+-- ---- the result of the search
 record IsCounted (args : List (List ℕ)) (f : Found) : Type 0 where
   stands : Here (drop f.place args) f.phrase
   earliest : (k : ℕ) (q : Phrase) → Here (drop k args) q → f.place ≤ k

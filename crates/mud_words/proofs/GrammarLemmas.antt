@@ -14,14 +14,14 @@ use Rattle.mud_words.specs.Grammar as grammar
 use Rattle.mud_words.proofs.PieceLemmas.{from_gap, drop-past_one}
 use Rattle.mud_words.proofs.CuttingLemmas.{onto, first, more_mark, mark}
 
--- a word goes on with a text, with these flags
+-- the words of a text that continues this word, with these flags
 abbrev goes : List ℕ → Bool → Bool → List ℕ → List (List ℕ)
 goes v quoted escaped text = goes_on v (slice_split is_gap (pieces_from quoted escaped text))
 
 other : (b c : ℕ) → b ≢ c → eqb b c ≡ false
 other b c differs = elim (cases_eq b c) [ inl same ↦ absurd (differs same) | inr _ ↦ grind (arith, nat_tests) ]
 
--- a byte that stands for itself, outside quotes and between them
+-- a plain byte, outside and inside quotes
 plain_goes : (v : List ℕ) (b : ℕ) (rest : List ℕ) → b ≢ SPACE → b ≢ QUOTE → b ≢ BACKSLASH
     → goes v false false (b ∷ rest) ≡ goes (v ++ b ∷ []) false false rest
 plain_goes v b rest space quote slash =
@@ -46,7 +46,7 @@ slash_goes v inside b rest =
     more_mark v (slice_split is_gap (pieces_from inside true (b ∷ rest)))
     ∙ onto v b (slice_split is_gap (pieces_from inside false rest))
 
--- ---- what the grammar allows is found
+-- ---- all words of the grammar are found
 between : {x text : List ℕ} → SpellsQuoted x text → (v rest : List ℕ)
     → goes v true false (x ++ rest) ≡ goes (v ++ text) true false rest
 between grammar.nothing v rest = ap (λ l. goes l true false rest) (sym (append-nil v))
@@ -86,7 +86,7 @@ word_begins (grammar.one run) rest = run_begins run rest
 word_begins (grammar.more {x} {v} {y} word run) rest =
     ap plain_words (append_assoc x y rest) ∙ word_begins word (y ++ rest) ∙ run_goes run v rest
 
--- the word that the end of a line ends
+-- the end of the line ends the word
 ended : (v : List ℕ) → goes v false false [] ≡ v ∷ []
 ended v = ap (λ (l : List ℕ). l ∷ []) (append-nil v)
 
@@ -123,11 +123,11 @@ found (grammar.word {x} {w} {y} {ws} word line) =
     ∙ ap (λ (l : List ℕ). l ∷ plain_words y) (append-nil w) ∙ ap (λ (l : List (List ℕ)). w ∷ l) (found line)
 found (grammar.last word) = last_found word
 
--- ---- what is found the grammar allows
+-- ---- the grammar allows all words that are found
 line_is : {x y : List ℕ} {us vs : List (List ℕ)} → x ≡ y → us ≡ vs → HasWords y vs → HasWords x us
 line_is same_text same_words line = rw (same_text, same_words) line
 
--- what stands in front of a run in its word: nothing, or runs
+-- the part of a word before a run: nothing, or runs
 data Front : List ℕ → List ℕ → Type 0 where
   bare : Front [] []
   runs : {x v : List ℕ} → SpellsWord x v → Front x v
@@ -145,8 +145,8 @@ with_quoted grammar.nothing more = more
 with_quoted (grammar.byte quote slash q) more = grammar.byte quote slash (with_quoted q more)
 with_quoted (grammar.guarded q) more = grammar.guarded (with_quoted q more)
 
--- the lines that end in this text, by where it begins: at the start of a line; in a word; after a backslash; between
--- quotes; after a backslash between quotes
+-- the lines that end in this text, by the state in which the text begins: at the start of a line, in a word, after a
+-- backslash, between quotes, or after a backslash between quotes
 record Reads (text : List ℕ) : Type 0 where
   starts : HasWords text (plain_words text)
   in_word : {x w : List ℕ} → SpellsWord x w → HasWords (x ++ text) (goes w false false text)
@@ -206,7 +206,7 @@ slash_with b rest {x} {v} reads front =
     (onto v b (slice_split is_gap (pieces_from false false rest)))
     (reads.in_word (with_run front (grammar.escaped {b = b})))
 
--- the front of a line, and an open quote with a text in it
+-- the beginning of a line, and an open quote with a text in it
 quote_assoc : (x y z rest : List ℕ) → x ++ QUOTE ∷ (y ++ (z ++ rest)) ≡ x ++ QUOTE ∷ ((y ++ z) ++ rest)
 quote_assoc x y z rest = ap (λ l. x ++ QUOTE ∷ l) (sym (append_assoc y z rest))
 
@@ -252,8 +252,8 @@ reads_text (b ∷ rest) = reads_byte b rest (cases_eq b SPACE) (cases_eq b QUOTE
 pub spelled : (line : List ℕ) (ws : List (List ℕ)) → plain_words line ≡ ws → HasWords line ws
 spelled line ws same = line_is refl (sym same) (reads_text line).starts
 
--- ---- what stands after the first word
--- what stands after the first gap of a text, with these flags
+-- ---- the rest after the first word
+-- the text after the first gap, with these flags
 abbrev behind : Bool → Bool → List ℕ → List ℕ
 behind quoted escaped text = from_gap (pieces_from quoted escaped text) text
 

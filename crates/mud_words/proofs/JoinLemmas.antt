@@ -1,4 +1,4 @@
--- Words that are joined by spaces.
+-- Words joined by spaces.
 use Rattle.std.proofs.Common.{◌≡◌, ℕ, List, [], ◌∷◌, ◌++◌, map, take, drop, Option, Some, None, option_map, refl, ap}
 use Rattle.std.proofs.Common.{◌∙◌, ◌<◌, ◌≤◌, length, get_or, take_all, arith}
 use Rattle.std.specs.List.{join_by, flat_map}
@@ -9,13 +9,13 @@ use Rattle.mud_words.specs.Prepositions.{Found, preposition_of}
 use Rattle.mud_words.specs.Parse.{round}
 use Rattle.mud_words.specs.inner.Spots.{spot_of, split, join_words}
 
--- the library's words for the same
+-- the library's definition agrees
 pub joined_by : {X : Type 0} (f : X → List ℕ) (xs : List X) → join_by f (SPACE ∷ []) xs ≡ join_words (map f xs)
 joined_by f [] = refl
 joined_by f (x ∷ []) = append-nil (f x)
 joined_by f (x ∷ y ∷ xs) = ap (λ (l : List ℕ). f x ++ (SPACE ∷ l)) (joined_by f (y ∷ xs))
 
--- the first word, and each other one with a space in front
+-- the first word, and each later one with a space before it
 pub joined_from : {X : Type 0} (f : X → List ℕ) (xs : List X) (x : X) (n : ℕ) (text : List ℕ) → 0 < length xs
     → x ≡ get_or xs 0 x → length (drop 1 xs) ≤ n → text ≡ f x ++ flat_map (λ y. SPACE ∷ f y) (take n (drop 1 xs))
     → text ≡ join_words (map f xs)
@@ -36,7 +36,7 @@ round_is f verb rest direct indirect xs spot (Some g) is before behind =
     let same : spot ≡ spot_of g = cc in
     rw (before, behind, same, take-map, drop-map) refl
 
--- what stands round a preposition
+-- the objects before and after a preposition
 pub split_is : {X : Type 0} (f : X → List ℕ) (verb rest direct indirect : List ℕ) (xs : List X) (spot : Spot)
     → Some spot ≡ option_map spot_of (preposition_of (map f xs)) → direct ≡ join_words (map f (take spot.start xs))
     → indirect ≡ join_words (map f (drop spot.end xs))

@@ -14,16 +14,16 @@ use Rattle.mud_words.specs.Laws.{is_mark, in_quotes, is_empty}
 use Rattle.mud_words.specs.inner.Cuts.{goes_on}
 use Rattle.mud_words.proofs.CuttingLemmas.{onto, more_mark, mark}
 
--- ---- words between quotes
--- a byte that stands for itself between quotes: a quote or a backslash has a backslash before it
+-- ---- quoted words
+-- a byte inside quotes: a backslash precedes each quote and each backslash
 abbrev guarded : ℕ → List ℕ
 guarded b = if is_mark b then BACKSLASH ∷ b ∷ [] else b ∷ []
 
--- a word goes on with a text, with these flags
+-- the words of a text that continues this word, with these flags
 abbrev goes : List ℕ → Bool → Bool → List ℕ → List (List ℕ)
 goes word quoted escaped text = goes_on word (slice_split is_gap (pieces_from quoted escaped text))
 
--- a guarded byte between quotes adds itself, whichever test finds it to be a mark
+-- a guarded byte inside quotes adds itself, whichever test recognizes it as a mark
 guarded_goes : (word : List ℕ) (b : ℕ) (rest : List ℕ) (quote backslash : Bool) → eqb b QUOTE ≡ quote
     → eqb b BACKSLASH ≡ backslash
     → goes word true false (cond (quote || backslash) (BACKSLASH ∷ b ∷ []) (b ∷ []) ++ rest)
@@ -43,7 +43,7 @@ inside word (b ∷ w) rest =
     ∙ inside (word ++ b ∷ []) w rest
     ∙ ap (λ l. goes l true false rest) (append_assoc word (b ∷ []) w)
 
--- a word between quotes, and what follows it
+-- a quoted word, and the text after it
 quoted_goes : (w rest : List ℕ) → plain_words (in_quotes w ++ rest) ≡ goes w false false rest
 quoted_goes w rest =
     mark None (pieces_from true false ((flat_map guarded w ++ QUOTE ∷ []) ++ rest))

@@ -1,4 +1,4 @@
--- What a byte is to its word, and the text after it.
+-- The role of a byte in its word, and the text after it.
 use Rattle.std.proofs.Common.{◌≡◌, ℕ, suc, ◌+◌, ◌<◌, Bool, true, false, cond, eqb, List, ◌∷◌, drop}
 use Rattle.std.proofs.Common.{refl, inl, inr, arith}
 use Rattle.std.proofs.lemmas.Bool.Decides.{nat_tests}
@@ -12,14 +12,14 @@ use Rattle.mud_words.specs.inner.Pieces.{piece, is_gap}
 not_eqb : (b c : ℕ) → c < b → eqb b c ≡ false
 not_eqb b c lt = grind (arith, nat_tests)
 
--- a byte past ASCII stands for itself
+-- a byte outside ASCII stands for itself
 piece-high : (quoted escaped : Bool) (b : ℕ) → 127 < b → piece quoted escaped b ≡ Char b
 piece-high quoted true b high = refl
 piece-high true false b high = rw (not_eqb b BACKSLASH (omega arith), not_eqb b QUOTE (omega arith)) refl
 piece-high false false b high =
     rw (not_eqb b BACKSLASH (omega arith), not_eqb b QUOTE (omega arith), not_eqb b SPACE (omega arith)) refl
 
--- and so one that does not is ASCII
+-- so a byte that does not stand for itself is ASCII
 pub piece-low : (quoted escaped : Bool) (b : ℕ) → (piece quoted escaped b ≡ Char b → ⊥) → b < 128
 piece-low quoted escaped b other =
     elim (cases_lt b 128) [
@@ -33,7 +33,7 @@ of_char true gap b d e = cc
 of_char false true b d e = cc
 of_char false false b d e = cc
 
--- what stands after the first gap
+-- the text after the first gap
 abbrev pub from_gap : List Piece → List ℕ → List ℕ
 from_gap ps text = drop (position_or_len is_gap ps + 1) text
 

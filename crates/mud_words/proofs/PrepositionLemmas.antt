@@ -1,4 +1,4 @@
--- Prepositions, as the code meets them word by word.
+-- Prepositions, as the code finds them word by word.
 use Rattle.std.proofs.Common.{◌≡◌, ℕ, ◌+◌, ◌-◌, ◌<◌, ◌≤◌, false, eqb, List, [], ◌∷◌, ◌++◌, length, map, take, drop}
 use Rattle.std.proofs.Common.{get_or, filter, Option, Some, None, option_map, refl, sym, ap, subst, ◌∙◌, inl, inr}
 use Rattle.std.proofs.Common.{arith}
@@ -16,11 +16,11 @@ use Rattle.std.specs.Str.{str_to_ascii_lowercase as lower}
 use Rattle.mud_words.specs.Prepositions.{Phrase, Found, begins, of_length, phrase_at, or_later, preposition_of}
 use Rattle.mud_words.specs.inner.Spots.{spot_of, phrase_len}
 
--- the same phrase, so many words further on
+-- a phrase found n words later
 abbrev pub moved : ℕ → Found → Found
 moved n f = record f { place = n + f.place }
 
--- the first word of each, and then the others
+-- the first word of each, then the others
 pub begins_more : {X Y : Type 0} (f : X → List ℕ) (g : Y → List ℕ) (xs : List X) (ys : List Y) (d : X) (e : Y)
     → 0 < length xs → 0 < length ys → lower (f (get_or xs 0 d)) ≡ lower (g (get_or ys 0 e))
     → begins (map f xs) (map g ys)
@@ -30,7 +30,7 @@ begins_more f g (x ∷ xs) [] d e some more same = absurd (omega arith)
 begins_more f g (x ∷ xs) (y ∷ ys) d e some more same =
     rw (take_rest (x ∷ xs) 1, take_rest (y ∷ ys) 1, (bytes_eq-Decides (lower (g y)) (lower (f x))).1 (sym same)) refl
 
--- the preposition at the first of the words that follow place i
+-- the preposition at the first word from place i on
 found : (i : ℕ) (ws : List (List ℕ)) (o : Option Phrase) (prep : Prep) (len : ℕ) → 0 < length ws → o ≡ phrase_at ws
     → Some (prep, len) ≡ option_map phrase_len o
     → Some (record { prep = prep; start = i; end = i + len })
@@ -54,7 +54,7 @@ passed i [] o some is this = absurd (omega arith)
 passed i (w ∷ ws) (Some p) some is this = cc
 passed i (w ∷ ws) None some is this = rw (← is) (later i (preposition_of ws))
 
--- the same in the code's words: one stands at place i
+-- in the code's terms: there is one at place i
 pub counted_here : {X : Type 0} (f : X → List ℕ) (xs : List X) (i : ℕ) (prep : Prep) (len : ℕ) → i < length xs
     → Some (prep, len) ≡ option_map phrase_len (phrase_at (map f (take (length xs - i) (drop i xs))))
     → Some (record { prep = prep; start = i; end = i + len })
@@ -63,7 +63,7 @@ counted_here f xs i prep len lt here =
     found i (map f (drop i xs)) _ prep len (omega (arith, length-map (drop i xs) f, length-drop i xs)) refl
     (rw take_rest at here)
 
--- and none does
+-- in the code's terms: there is none at place i
 pub counted_later : {X : Type 0} (f : X → List ℕ) (xs : List X) (i : ℕ) → i < length xs
     → None ≡ option_map phrase_len (phrase_at (map f (take (length xs - i) (drop i xs))))
     → option_map (moved i) (preposition_of (map f (drop i xs)))
@@ -78,7 +78,7 @@ moved_none : (o : Option Found) → option_map (moved 0) o ≡ o
 moved_none None = refl
 moved_none (Some f) = rw zero-add refl
 
--- no word is passed yet, and none is left
+-- before the first word is passed, and after the last
 pub counted_first : (ws : List (List ℕ)) → option_map (moved 0) (preposition_of ws) ≡ preposition_of ws
 counted_first ws = moved_none (preposition_of ws)
 
@@ -88,20 +88,20 @@ unfolding preposition_of
 counted_end f xs i end = rw (drop_all i xs end) refl
 
 -- ---- by the first letter
--- the first of some phrases that words in lower case begin with
+-- the first of some phrases that the words begin with, in lower case
 abbrev first_of : List (List ℕ) → List Phrase → Option Phrase
 first_of words phrases = find (λ p. starts_with bytes_eq words (map lower p.words)) phrases
 
 abbrev all_phrases : List Phrase
 all_phrases = of_length 3 ++ of_length 2 ++ of_length 1
 
--- phrases among which words that begin with a letter find what they find among all
+-- for words that begin with a letter, these phrases find what all phrases find
 abbrev pub Serves : ℕ → List Phrase → Type 0
 Serves letter phrases =
     (ls : List ℕ) (ws : List (List ℕ))
     → first_of ((letter ∷ ls) ∷ ws) phrases ≡ first_of ((letter ∷ ls) ∷ ws) all_phrases
 
--- those of all phrases that begin with a letter
+-- the phrases that begin with a letter
 abbrev pub with_letter : ℕ → List Phrase
 with_letter letter = filter (λ p. eqb (get_or (get_or p.words 0 []) 0 0) letter) all_phrases
 
@@ -133,7 +133,7 @@ no_letter l a b f i o t u w ls ws =
     )
     refl
 
--- no words, and an empty first word
+-- no words, or an empty first word
 pub nothing_begun : {X : Type 0} (f : X → List ℕ) (xs : List X) → length xs ≡ 0 → None ≡ phrase_at (map f xs)
 unfolding phrase_at
 nothing_begun f [] none = refl

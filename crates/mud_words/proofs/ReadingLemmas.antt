@@ -1,4 +1,4 @@
--- The first word of a text, as it is read byte by byte.
+-- The first word of a text, read byte by byte.
 use Rattle.std.proofs.Common.{◌≡◌, ℕ, ◌+◌, ◌-◌, ◌<◌, ◌≤◌, Bool, true, false, cond, List, [], ◌∷◌, ◌++◌, length, take}
 use Rattle.std.proofs.Common.{drop, map, get_or, Some, refl, sym, ap, ◌∙◌, append_assoc, arith}
 use Rattle.std.specs.List.{slice_split, slice_range, onto_first, position_or_len}
@@ -17,12 +17,12 @@ use Rattle.mud_words.proofs.PieceLemmas.{piece-low, of_char, from_gap, drop-past
 use Rattle.mud_words.proofs.CuttingLemmas.{onto, more_mark}
 use Rattle.mud_words.proofs.BlankLemmas.{begins_blank, bare}
 
--- a word goes on with some pieces
+-- the words of these pieces when they continue a word
 abbrev goes : List ℕ → List Piece → List (List ℕ)
 goes word ps = goes_on word (slice_split is_gap ps)
 
--- how far the first word is read: what is copied of it, where what is not begins, the place that is reached, and what
--- is open there
+-- the progress in the first word: the bytes copied so far, the start of the bytes not copied yet, the place of the next
+-- byte, and the flags there
 pub record Reading (text word : List ℕ) (start at : ℕ) (quoted escaped : Bool) : Type 0 where
   pub words : goes (word ++ slice_range text start at) (pieces_from quoted escaped (drop at text))
       ≡ goes [] (pieces text)
@@ -39,7 +39,7 @@ nothing_read text word quoted escaped utf8 bare no_quote no_escape = rw (bare, n
   boundary = IsCharBoundary-start text utf8;
 })
 
--- the byte at a place, what it is, and what it leaves open
+-- the byte at a place, its role, and the flags after it
 pub record Next (text : List ℕ) (at b : ℕ) (quoted escaped : Bool) (p : Piece) (quoted' escaped' : Bool) : Type 0 where
   pub within : at < length text
   pub here : b ≡ get_or text at b
@@ -72,7 +72,7 @@ next_piece : (text : List ℕ) (at b : ℕ) (quoted escaped : Bool) (p : Piece) 
 next_piece text at b quoted escaped p quoted' escaped' n =
     ap (pieces_from quoted escaped) (cons_here text at b n.within n.here) ∙ rw (n.is, n.quotes, n.escapes) refl
 
--- a byte that is no gap is passed
+-- a byte that is not a gap is passed
 past : (p : Piece) (b : ℕ) (ps : List Piece) (text : List ℕ) → (p ≡ Gap → ⊥)
     → from_gap (p ∷ ps) (b ∷ text) ≡ from_gap ps text
 past Gap b ps text other = absurd (other refl)
@@ -98,7 +98,7 @@ one_more text start at b le lt here =
     ∙ ap (λ (x : ℕ). slice_range text start at ++ x ∷ [])
     (get_or-drop start text (at - start) b ∙ ap (λ (i : ℕ). get_or text i b) same ∙ sym here)
 
--- a byte that stands for itself
+-- a plain byte
 pub char_read : (text word : List ℕ) (start at b c : ℕ) (quoted escaped quoted' escaped' : Bool)
     → Next text at b quoted escaped (Char c) quoted' escaped' → Reading text word start at quoted escaped
     → Reading text word start (at + 1) quoted' escaped'
@@ -120,7 +120,7 @@ char_read text word start at b c quoted escaped quoted' escaped' n read =
       boundary = read.boundary;
     }
 
--- a byte that does not is ASCII
+-- a byte that is not plain is ASCII
 pub ascii_here : (text : List ℕ) (at b : ℕ) (quoted escaped : Bool) (p : Piece) (quoted' escaped' : Bool)
     → Next text at b quoted escaped p quoted' escaped' → (p ≡ Char b → ⊥) → get_or text at 0 < 128
 ascii_here text at b quoted escaped p quoted' escaped' n other =
@@ -174,7 +174,7 @@ end_words text word word' start at quoted escaped end copied read =
     ∙ sym copied)
 
 -- ---- the words of a text, one by one
--- a text that begins with no space has the word that it begins with, and those after
+-- a text that does not begin with a space has a first word and the words after it
 begun_with : (p : Piece) (parts : List (List Piece)) → texts_of (onto_first p parts) ≡ goes_on [] (onto_first p parts)
 begun_with p [] = refl
 begun_with p (part ∷ parts) = refl
@@ -184,7 +184,7 @@ begun_by : (mark : Bool) (b : ℕ) (ps : List Piece)
 begun_by true b ps = begun_with Mark (slice_split is_gap ps)
 begun_by false b ps = begun_with (Char b) (slice_split is_gap ps)
 
--- a text without spaces at its front
+-- a text without leading spaces
 pub record Trimmed (text : List ℕ) : Type 0 where
   pub trimmed : begins_blank text ≡ false
 
@@ -216,7 +216,7 @@ without_front-length (b ∷ bs) = front b bs (is_space b) (without_front-length 
     front b bs true le = omega arith
     front b bs false le = omega arith
 
--- less is left after the first word
+-- the text after the first word is shorter
 pub less_left : (text rest text' : List ℕ) → 0 < length text → rest ≡ after_first_word text → text' ≡ without_front rest
     → length text' < length text
 less_left text rest text' some behind left =
@@ -227,7 +227,7 @@ less_left text rest text' some behind left =
       length-drop (position_or_len is_gap (pieces text) + 1) text,
     ))
 
--- the words so far with those of what is left, once the first of these is taken
+-- the words so far followed by those of the remaining text, after its first word is taken
 pub word_taken : {X : Type 0} (f : X → List ℕ) (xs xs' : List X) (x : X) (text rest text' : List ℕ) → Trimmed text
     → 0 < length text → rest_words (Some []) (pieces text) ≡ f x ∷ plain_words rest → xs' ≡ xs ++ x ∷ []
     → text' ≡ without_front rest → map f xs' ++ plain_words text' ≡ map f xs ++ plain_words text
@@ -245,7 +245,7 @@ front_taken ws text text' is = ap (λ (l : List (List ℕ)). ws ++ l) (ap plain_
 pub front_trimmed : (text text' : List ℕ) → text' ≡ without_front text → Trimmed text'
 front_trimmed text text' is = rw is (without_front-trimmed text)
 
--- the words of a line that is no shorthand
+-- the words of a line without shorthand
 pub line_begun : (line text word rest : List ℕ) → text ≡ without_front line → 0 < length text → spelled_out text ≡ text
     → rest_words (Some []) (pieces text) ≡ word ∷ plain_words rest → words line ≡ word ∷ plain_words rest
 unfolding words

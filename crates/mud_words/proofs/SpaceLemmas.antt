@@ -14,7 +14,7 @@ use Rattle.std.proofs.lemmas.Bool.Decides.{nat_tests}
 use Rattle.mud_words.specs.declared.codes.TheConstants.{QUOTE, COLON, SEMICOLON}
 use Rattle.mud_words.specs.Words.{is_space, without_front, without_back, spelled_out}
 
--- ---- in front
+-- ---- leading spaces
 
 same_behind_cuts : (s : List ℕ) (ns : List ℕ) (r : List ℕ) → CutsPrefixes (FindsCharPrefix 32) s ns r
     → without_front s ≡ without_front r
@@ -41,7 +41,7 @@ none_left r (Some n, h, u) =
 pub trimmed_in_front : (s r : List ℕ) → IsTrimStartMatches (FindsCharPrefix 32) s r → r ≡ without_front s
 trimmed_in_front s r ((ns, cuts), full) = sym (same_behind_cuts s ns r cuts ∙ none_left r full)
 
--- ---- after
+-- ---- trailing spaces
 
 last_space : (m : List ℕ) (n : ℕ) → FindsCharSuffix 32 m (Some n) → m ≡ take (length m - n) m ++ 32 ∷ []
 last_space m n h =
@@ -73,7 +73,7 @@ trimmed_behind s r ((ns, cuts), full) =
     sym (ap reverse (same_before_cuts s ns r cuts ∙ none_left_behind r full) ∙ reverse-reverse r)
 
 -- ---- the first character
--- the first byte of a text that begins with no c
+-- the first byte of a text that does not begin with c
 other_first : (b c : ℕ) (bs : List ℕ) → ((rest : List ℕ) → b ∷ bs ≡ c ∷ rest → ⊥) → eqb b c ≡ false
 other_first b c bs bare =
     elim (cases_eq b c) [
@@ -89,7 +89,7 @@ plain_first [] say emote eval = refl
 plain_first (b ∷ bs) say emote eval =
     rw (other_first b QUOTE bs say, other_first b COLON bs emote, other_first b SEMICOLON bs eval) refl
 
--- a line without shorthand is spelled out already
+-- a line without shorthand is already spelled out
 pub spelled_out-plain : (line : List ℕ) → ((rest : List ℕ) → line ≡ encode_utf8 34 ++ rest → ⊥)
     → ((rest : List ℕ) → line ≡ encode_utf8 58 ++ rest → ⊥) → ((rest : List ℕ) → line ≡ encode_utf8 59 ++ rest → ⊥)
     → line ≡ spelled_out line

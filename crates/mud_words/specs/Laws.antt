@@ -1,4 +1,4 @@
--- What the laws of the words of a line say.
+-- Statements of the laws.
 use Rattle.std.specs.Prelude.{◌≡◌, ℕ, Bool, true, false, not, ◌||◌, ◌==◌, if◌then◌else◌, List, [], ◌∷◌, ◌++◌, filter}
 use Rattle.std.specs.Prelude.{◌↔◌, codes}
 use Rattle.std.specs.Prelude.{map}
@@ -11,30 +11,30 @@ use Rattle.mud_words.specs.Grammar.{SpellsWord, SpellsLast, HasWords}
 abbrev pub is_mark : ℕ → Bool
 is_mark b = b == QUOTE || b == BACKSLASH
 
--- a word between double quotes, with a backslash before each quote and each backslash of it
+-- a word in double quotes, with a backslash before each of its quotes and backslashes
 abbrev pub in_quotes : List ℕ → List ℕ
 in_quotes word = QUOTE ∷ (flat_map (λ b. if is_mark b then BACKSLASH ∷ b ∷ [] else b ∷ []) word ++ QUOTE ∷ [])
 
--- every list of words can be written as a line, each word between quotes, with one space between two, and reads back
+-- a line that has each word between quotes, and one space between two words, has exactly these words
 abbrev pub QuotedWordsReadBack : Type 0
 QuotedWordsReadBack = (ws : List (List ℕ)) → plain_words (join_with_byte SPACE (map in_quotes ws)) ≡ ws
 
--- there is nothing in it
+-- the list is empty
 abbrev pub is_empty : {A : Type 0} → List A → Bool
 is_empty [] = true
 is_empty (x ∷ xs) = false
 
--- a line without quotes and backslashes has the words that stand between its spaces
+-- the words of a line without quotes and backslashes are the pieces between its spaces
 abbrev pub PlainLinesSplitAtSpaces : Type 0
 PlainLinesSplitAtSpaces =
     (line : List ℕ) → list_all (λ b. not (is_mark b)) line ≡ true
     → plain_words line ≡ filter (λ word. not (is_empty word)) (slice_split is_space line)
 
--- the words that `plain_words` gives are the words of the line, and no others are
+-- a line has exactly the words of `plain_words`
 abbrev pub WordsAreSpelled : Type 0
 WordsAreSpelled = (line : List ℕ) (ws : List (List ℕ)) → (plain_words line ≡ ws) ↔ HasWords line ws
 
--- what stands after the first word of a line is what follows the space that ends it, and nothing where there is none
+-- the rest after the first word is the text after the space that ends it, and empty if there is no such space
 pub record RestFollowsFirstWord : Type 0 where
   pub follows : {x w : List ℕ} → SpellsWord x w → (rest : List ℕ) → after_first_word (x ++ codes " " ++ rest) ≡ rest
   pub nothing : {x w : List ℕ} → SpellsLast x w → after_first_word x ≡ []

@@ -1,10 +1,10 @@
--- A line, taken apart.
+-- A parsed line.
 use Rattle.std.specs.Prelude.{ℕ, List, map, Option}
 use Rattle.std.specs.Cow.{cow_str_bytes}
 use Rattle.mud_words.specs.declared.Prep.{Prep}
 use Rattle.mud_words.specs.declared.Parsed.{Parsed}
 
--- what a line says, its texts as lists of bytes
+-- a parsed line; its texts are lists of bytes
 pub record Line : Type 0 where
   pub verb : List ℕ
   pub args : List (List ℕ)
@@ -13,7 +13,7 @@ pub record Line : Type 0 where
   pub indirect : List ℕ
   pub rest : List ℕ
 
--- what a `Parsed` is seen as
+-- the model of a `Parsed`
 abbrev pub line_of : Parsed → Line
 line_of p = record {
   verb = cow_str_bytes p.verb;

@@ -1,4 +1,4 @@
--- What a line says.
+-- The parse of a line.
 use Rattle.std.specs.Prelude.{ℕ, ◌+◌, List, [], ◌∷◌, length, take, drop, Option, None}
 use Rattle.std.specs.Option.{option_map, option_map_or}
 use Rattle.std.specs.List.{join_with_byte}
@@ -8,7 +8,8 @@ use Rattle.mud_words.specs.Line.{Line}
 use Rattle.std.specs.Str.{str_to_ascii_lowercase as lower}
 use Rattle.mud_words.specs.Prepositions.{Found, preposition_of}
 
--- the objects round a preposition: the words before it are direct, those after it indirect; without one all are direct
+-- the objects around a preposition: the words before it are direct, and those after it indirect; without one all are
+-- direct
 abbrev pub round : List ℕ → List (List ℕ) → List ℕ → Option Found → Line
 round verb args rest found = record {
   verb = verb;
@@ -19,12 +20,12 @@ round verb args rest found = record {
   rest = rest;
 }
 
--- what some words say: the first is the verb, and the others are parted at the preposition that counts
+-- the parse of words: the first is the verb, and the others are split at the preposition that counts
 abbrev pub line_of_words : List (List ℕ) → List ℕ → Line
 line_of_words [] rest = round [] [] rest None
 line_of_words (verb ∷ args) rest = round (lower verb) args rest (preposition_of args)
 
--- what a line says: what its words say, with the text after the first of them, without the spaces at its ends
+-- the parse of a line: the parse of its words, and the text after the first word, without the spaces at its ends
 unfoldable pub parse_of : List ℕ → Line
 parse_of line =
     line_of_words (words line) (without_back (without_front (after_first_word (spelled_out (without_front line)))))

@@ -1,12 +1,12 @@
-//! The bytes that have a name: characters of USASCII that mean something in a line.
+//! Named bytes: US-ASCII characters with a meaning in a line.
 
-/// Space: separates words, outside double quotes.
+/// Space: separates words, except inside double quotes.
 pub const SPACE: u8 = 32;
-/// Double quote: begins and ends what stands between quotes, and in front of a line stands for `say`.
+/// Double quote: begins and ends a quotation. At the start of a line it stands for `say`.
 pub const QUOTE: u8 = 34;
-/// Colon: in front of a line it stands for `emote`.
+/// Colon: at the start of a line it stands for `emote`.
 pub const COLON: u8 = 58;
-/// Semicolon: in front of a line it stands for `eval`.
+/// Semicolon: at the start of a line it stands for `eval`.
 pub const SEMICOLON: u8 = 59;
 /// Backslash: makes the next character stand for itself.
 pub const BACKSLASH: u8 = 92;

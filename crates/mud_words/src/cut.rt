@@ -27,8 +27,8 @@ pub(crate) fn push_words<'a>(
     Ok(())
 }
 
-/// The word that a text begins with, and what stands after the space that ends it. A word without
-/// quotes and backslashes is a piece of the text, and no copy.
+/// Returns the first word of a text, and the text after the space that ends the word. A word without quotes and
+/// backslashes borrows from the text, and is not copied.
 pub(crate) fn first_word<'a>(
     alloc: Global,
     text: &'a str,
@@ -40,7 +40,7 @@ pub(crate) fn first_word<'a>(
     let bytes = text.as_bytes();
     for at in 0..bytes.len() {
         let byte = bytes[at];
-        // Small letters stand after all three in ASCII.
+        // The lower-case letters come after all three in ASCII.
         if byte > b'\\' {
             continue;
         }
@@ -56,8 +56,8 @@ pub(crate) fn first_word<'a>(
     Ok((CowStr::Borrowed(text), ""))
 }
 
-// The first word of a text and what stands behind it, where quotes and backslashes may stand in the word. What lies
-// between two marks is copied at once.
+// Returns the first word of a text and the text after it, if the word may contain quotes and backslashes. The bytes
+// between two marks are copied in one piece.
 fn marked_word(alloc: Global, text: &str) -> Result<(String, &str), AllocError>
     ensures words { IfOk result (λ r. rest_words (Some []) (pieces text.now)
         ≡ string_bytes r.0 ∷ plain_words r.1.now) }

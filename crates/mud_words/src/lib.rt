@@ -1,24 +1,20 @@
-//! The words of a line, and what the line says: its verb, its objects and the preposition between
-//! them.
+//! Splits a line into words, and parses it into a verb, its objects and the preposition between them.
 //!
-//! A line is read as section "The Built-in Command Parser" of the LambdaMOO Programmer's Manual
-//! has it, with the choices of this project's own profile:
+//! The rules are those of the LambdaMOO Programmer's Manual, "The Built-in Command Parser", with the choices of this
+//! project's own profile:
 //!
-//! - Words are separated by spaces. Any other byte begins a word or goes on with one.
-//! - Between double quotes a space is a character of the word. Quotes may begin and end inside a
-//!   word, and are no characters of it; one left open ends with the line. So `""` is an empty
-//!   word.
-//! - A backslash makes the next character stand for itself. A backslash at the end of the line
-//!   adds nothing to its word, but it is an empty word where it stands alone.
-//! - A line whose first character, spaces aside, is `"`, `:` or `;` stands for one that begins
-//!   with `say `, `emote ` or `eval ` in its place.
-//! - The first word is the verb. Among the others the earliest preposition counts, and of several
-//!   at one place the one of most words.
+//! - Spaces separate words. Any other byte begins a word or continues one.
+//! - Between double quotes a space is part of the word. Quotes may begin and end inside a word, and are not part of it.
+//!   An open quote ends with the line. So `""` is an empty word.
+//! - A backslash makes the next character stand for itself. A backslash at the end of the line adds nothing to its
+//!   word; alone it is an empty word.
+//! - If the first character after leading spaces is `"`, `:` or `;`, it stands for `say `, `emote ` or `eval `.
+//! - The first word is the verb. Among the others the earliest preposition counts, and of several at one place the one
+//!   with the most words.
 //!
-//! [`words`] gives the words, [`parse`] all that the line says, and [`is_blank`] tells whether it
-//! has words at all. Each takes a line of any length, in time that grows with it in proportion,
-//! and keeps every character of it, also past ASCII. The one error is [`AllocError`], where memory
-//! runs out.
+//! [`words`] returns the words, [`parse`] the whole parse, and [`is_blank`] whether there are any words. Each accepts a
+//! line of any length, takes time linear in it, and keeps every character, ASCII or not. The only error is
+//! [`AllocError`], if an allocation fails.
 //!
 //! ```
 //! let parsed = parse(rt.alloc(), "@DIG north|south  to \"Big Library\"  ")?;
@@ -29,12 +25,15 @@
 //! assert_eq!(rt; parsed.rest, "north|south  to \"Big Library\"");
 //! ```
 //!
-//! Proved: the answers are exactly those of the definitions in `specs/`, [`words`] those of
-//! `Words.antt` and [`parse`] those of `Parse.antt` with the table in `Prepositions.antt`. The
-//! functions of [`laws`] prove that these definitions say what they are meant to: that a line has
-//! exactly the words that the grammar in `Grammar.antt` gives it, that what stands after the first
-//! word is what follows the space that ends it, that words written between quotes read back, that
-//! a line without quotes is cut at its spaces, and which preposition counts.
+//! Proved: the results are exactly those of the definitions in `specs/`. `Words.antt` defines [`words`], and
+//! `Parse.antt` defines [`parse`], with the table of `Prepositions.antt`. The functions of [`laws`] prove that the
+//! definitions mean what they should:
+//!
+//! - A line has exactly the words of the grammar in `Grammar.antt`.
+//! - The rest begins after the space that ends the first word.
+//! - Words written between quotes read back.
+//! - A line without quotes and backslashes is split at its spaces.
+//! - The preposition that counts is the longest at the earliest place.
 #![tactic(auto)]
 
 ghost use Rattle.std.specs.Prelude.{◌≡◌, ◌↔◌, [], ◌∷◌, IsTrue, map, IfOk, IfSome, MatchOption};
@@ -57,8 +56,8 @@ use crate::split::{blank, line_with_verb};
 use std::alloc::{AllocError, Global};
 use std::borrow::CowStr;
 
-/// A preposition: one variant for all phrases that say the same (LambdaMOO Programmer's Manual,
-/// "The Built-in Command Parser").
+/// A preposition. One variant stands for all phrases with one meaning (LambdaMOO Programmer's Manual, "The Built-in
+/// Command Parser").
 #[derive(Clone, Copy, Debug, PartialEq, Eq)]
 pub enum Prep {
     /// `with`, `using`
@@ -93,33 +92,32 @@ pub enum Prep {
     Off,
 }
 
-/// What a line says. Its texts are pieces of the line; only where quotes or backslashes are dropped,
-/// letters lowered or words joined is a text a copy.
+/// A parsed line. Its texts borrow from the line. A text is a copy only if quotes or backslashes were dropped, letters
+/// were lowered, or words were joined.
 ///
-/// A blank line has an empty verb and nothing else.
+/// The verb of a blank line is empty, and so is everything else.
 #[derive(Debug, Drop)]
 pub struct Parsed<'a> {
-    /// The first word, its ASCII letters in lower case.
+    /// The first word, with its ASCII letters in lower case.
     pub verb: CowStr<'a, Global>,
-    /// The words after the verb, as they are typed.
+    /// The words after the verb, as they were typed.
     pub args: Vec<CowStr<'a, Global>>,
-    /// The words before the preposition that counts, joined by one space; without one all `args`.
+    /// The words before the preposition that counts, joined by one space. Without a preposition, all of `args`.
     pub direct: CowStr<'a, Global>,
-    /// The preposition that counts, if one stands among `args`.
+    /// The preposition that counts, if `args` contains one.
     pub prep: Option<Prep>,
-    /// The words after that preposition, joined by one space; without one the empty text.
+    /// The words after that preposition, joined by one space. Without a preposition, the empty text.
     pub indirect: CowStr<'a, Global>,
-    /// What stands after the first word of the line, its quotes and backslashes as they are typed,
-    /// without the spaces at its ends. Of a line that begins with `"`, `:` or `;` this is what
-    /// follows that character.
+    /// The text after the first word of the line, with its quotes and backslashes, and without the spaces at its ends.
+    /// In a line that begins with `"`, `:` or `;`, the text after that character.
     pub rest: &'a str,
 }
 
-/// The words of a line, its shorthand spelled out: of `foo "bar mumble" baz` the words `foo`,
-/// `bar mumble` and `baz`, of `"hi there` the words `say`, `hi` and `there`.
+/// Splits a line into words, after its shorthand is spelled out. `foo "bar mumble" baz` has the words `foo`, `bar
+/// mumble` and `baz`; `"hi there` has the words `say`, `hi` and `there`.
 ///
-/// A blank line has none. A word without quotes and backslashes is a piece of the line, and no copy.
-/// The time is in proportion to the line.
+/// A blank line has no words. A word without quotes and backslashes borrows from the line, and is not copied. The time
+/// is linear in the line.
 #[tactic(auto, unfolding(crate::specs::Words::words))]
 pub fn words(alloc: Global, line: &str) -> Result<Vec<CowStr<'_, Global>>, AllocError>
     ensures { IfOk result (λ ws. map cow_str_bytes ws.items ≡ words line.now) }
@@ -132,12 +130,11 @@ pub fn words(alloc: Global, line: &str) -> Result<Vec<CowStr<'_, Global>>, Alloc
     Ok(words)
 }
 
-/// What a line says: verb, objects, the preposition between them, and the rest of its text.
+/// Parses a line: verb, objects, the preposition between them, and the rest of the text.
 ///
-/// The preposition is the one that stands earliest among the words after the verb, and of several
-/// at one place the one of most words. ASCII case is ignored, and quotes make no difference; but
-/// a preposition of several words is several words of the line, so that `"in front of"` between
-/// quotes is none. The time is in proportion to the line.
+/// The preposition is the earliest among the words after the verb, and of several at one place the one with the most
+/// words. ASCII case is ignored, and quotes make no difference. A preposition of several words must be several words of
+/// the line, so a quoted `"in front of"` is not a preposition. The time is linear in the line.
 #[tactic(auto, unfolding(crate::specs::Parse::parse_of, crate::specs::Words::words))]
 pub fn parse(alloc: Global, line: &str) -> Result<Parsed<'_>, AllocError>
     ensures { IfOk result (λ p. line_of p ≡ parse_of line.now) }
@@ -148,7 +145,8 @@ pub fn parse(alloc: Global, line: &str) -> Result<Parsed<'_>, AllocError>
     }
 }
 
-// The first word of a line, its shorthand spelled out, and the text after it. A blank line has none.
+// Returns the first word of a line, after its shorthand is spelled out, and the text after the word. A blank line has
+// no first word.
 #[tactic(auto, unfolding(crate::specs::Words::words))]
 fn verb_and_text(
     alloc: Global,
@@ -169,8 +167,8 @@ fn verb_and_text(
     Ok(Some(first_word(alloc, line)?))
 }
 
-/// Whether a line has no words: it is empty, or of spaces alone. A lone backslash is a word, and
-/// so the line is not blank.
+/// Returns whether a line has no words: it is empty, or all spaces. A lone backslash is a word, so such a line is not
+/// blank.
 pub fn is_blank(line: &str) -> bool
     ensures value { result ≡ is_blank line.now }
     ensures no_words { IsTrue result ↔ (words line.now ≡ []) }

@@ -1,23 +1,23 @@
 ghost use Rattle.std.specs.Prelude.{◌≡◌, false};
 ghost use Rattle.mud_words.specs.inner.Pieces.{piece, quoted_after, escaped_after};
 
-/// What a byte of a line is to the words that it stands in.
+/// The role of a byte in the words of a line.
 #[derive(Clone, Copy)]
 pub(crate) enum Piece {
-    /// A space that stands between words.
+    /// A space between words.
     Gap,
-    /// A quote or a backslash that belongs to a word and is no character of it.
+    /// A quote or a backslash that belongs to a word without being one of its characters.
     Mark,
-    /// A byte of a character that stands for itself.
+    /// A byte of a plain character.
     Char(u8),
 }
 
-/// What the bytes before a place leave open there.
+/// The quotation state before a byte.
 #[derive(Clone, Copy)]
 pub(crate) struct Quotes {
     /// A double quote is open.
     pub quoted: bool,
-    /// A backslash stands right before.
+    /// The previous byte is a backslash that escapes this one.
     pub escaped: bool,
 }
 
@@ -32,7 +32,7 @@ impl Quotes {
         }
     }
 
-    /// Takes the next byte, and says what it is.
+    /// Consumes the next byte and returns its role.
     pub(crate) fn take_byte(&mut self, byte: u8) -> Piece
         ensures piece { result ≡ piece self.old.quoted self.old.escaped byte }
         ensures quoted { self.new.quoted ≡ quoted_after self.old.quoted self.old.escaped byte }

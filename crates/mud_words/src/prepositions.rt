@@ -10,7 +10,8 @@ use crate::Prep;
 use std::alloc::Global;
 use std::borrow::CowStr;
 
-/// The words of a line that are a preposition: which, and the places before and after them.
+/// The words of a line that form a preposition: the preposition, and the places of its first word and of the word after
+/// it.
 #[derive(Clone, Copy)]
 pub(crate) struct Spot {
     pub prep: Prep,
@@ -18,7 +19,7 @@ pub(crate) struct Spot {
     pub end: usize,
 }
 
-// The preposition that counts among the words of a line.
+// Returns the preposition that counts among the words of a line.
 pub(crate) fn preposition_of(args: &[CowStr<'_, Global>]) -> Option<Spot>
     ensures value { result ≡ option_map spot_of (preposition_of (map cow_str_bytes args.now)) }
     ensures order { IfSome result (λ s. s.start ≤ s.end) }
@@ -33,7 +34,7 @@ pub(crate) fn preposition_of(args: &[CowStr<'_, Global>]) -> Option<Spot>
     None
 }
 
-// The longest preposition that the words begin with, and how many words it has.
+// Returns the longest preposition that the words begin with, and the number of its words.
 fn phrase_at(words: &[CowStr<'_, Global>]) -> Option<(Prep, usize)>
     ensures value { result ≡ option_map phrase_len (phrase_at (map cow_str_bytes words.now)) }
     ensures within { IfSome result (λ p. p.1 ≤ length words.now) }
@@ -47,7 +48,7 @@ fn phrase_at(words: &[CowStr<'_, Global>]) -> Option<(Prep, usize)>
     first_said(phrases_with(letter.to_ascii_lowercase()), words)
 }
 
-// The phrases that begin with each letter, those of more words first.
+// The phrases that begin with each letter, longer ones first.
 const WITH_A: &[(Prep, &[&str])] = &[
     (Prep::To, &["at"]),
     (Prep::For, &["about"]),
@@ -95,7 +96,7 @@ const WITH_U: &[(Prep, &[&str])] = &[
 
 const WITH_W: &[(Prep, &[&str])] = &[(Prep::With, &["with"])];
 
-// The phrases that begin with a letter.
+// Returns the phrases that begin with a letter.
 fn phrases_with(letter: u8) -> &'static [(Prep, &'static [&'static str])]
     ensures { (c : ℕ) (cs : List ℕ) (ws : List (List ℕ)) → to_ascii_lowercase c ≡ letter
         → find (λ p. begins ((c ∷ cs) ∷ ws) p.words) (map row_shown result.now) ≡ phrase_at ((c ∷ cs) ∷ ws) }
@@ -113,7 +114,7 @@ fn phrases_with(letter: u8) -> &'static [(Prep, &'static [&'static str])]
     }
 }
 
-// The first of the phrases that the words begin with, and how many words it has.
+// Returns the first of the phrases that the words begin with, and the number of its words.
 fn first_said(phrases: &[(Prep, &[&str])], words: &[CowStr<'_, Global>]) -> Option<(Prep, usize)>
     ensures value { result ≡ option_map phrase_len
         (find (λ p. begins (map cow_str_bytes words.now) p.words) (map row_shown phrases.now)) }
@@ -127,7 +128,7 @@ fn first_said(phrases: &[(Prep, &[&str])], words: &[CowStr<'_, Global>]) -> Opti
     None
 }
 
-// Whether the words begin with those of a phrase, whatever the case of their letters.
+// Returns whether the words begin with those of a phrase, ignoring case.
 fn begins(words: &[CowStr<'_, Global>], phrase: &[&str]) -> bool
     ensures value { result ≡ begins (map cow_str_bytes words.now) (texts phrase.now) }
     ensures within { IsTrue result → length phrase.now ≤ length words.now }

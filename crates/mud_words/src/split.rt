@@ -13,7 +13,7 @@ use crate::{Parsed, Prep};
 use std::alloc::{AllocError, Global};
 use std::borrow::CowStr;
 
-/// What a line says that has a verb, and this text after it.
+/// Returns the parse of a line with this verb and this text after it.
 pub(crate) fn line_with_verb<'a>(
     alloc: Global,
     verb: CowStr<'a, Global>,
@@ -28,7 +28,7 @@ pub(crate) fn line_with_verb<'a>(
     split(alloc, verb, args, without_back(without_front(text)))
 }
 
-// A word, its ASCII letters in lower case. One without upper case letters is not copied.
+// Returns a word with its ASCII letters in lower case. A word without upper-case letters is not copied.
 fn to_lower<'a>(alloc: Global, word: CowStr<'a, Global>) -> Result<CowStr<'a, Global>, AllocError>
     ensures { IfOk result (λ w. cow_str_bytes w ≡ lower (cow_str_bytes word.entry)) }
 {
@@ -40,7 +40,7 @@ fn to_lower<'a>(alloc: Global, word: CowStr<'a, Global>) -> Result<CowStr<'a, Gl
     Ok(CowStr::Owned(word))
 }
 
-// Whether a text has an upper case letter of ASCII: without one it is what it is in lower case.
+// Returns whether a text has an ASCII upper-case letter. Without one it equals its lower-case form.
 fn has_upper(text: &str) -> bool
     ensures { IsFalse result → lower text.now ≡ text.now }
 {
@@ -52,7 +52,7 @@ fn has_upper(text: &str) -> bool
     false
 }
 
-/// What a blank line says.
+/// Returns the parse of a blank line.
 pub(crate) fn blank(alloc: Global) -> Parsed<'static>
     ensures { line_of result ≡ line_of_words [] [] }
 {
@@ -66,7 +66,7 @@ pub(crate) fn blank(alloc: Global) -> Parsed<'static>
     }
 }
 
-/// The arguments round the preposition that counts.
+/// Splits the arguments at the preposition that counts.
 fn split<'a>(
     alloc: Global,
     verb: CowStr<'a, Global>,
@@ -87,7 +87,7 @@ fn split<'a>(
     })
 }
 
-/// What stands round a preposition.
+/// The objects before and after a preposition.
 #[derive(Drop)]
 pub(crate) struct Objects<'a> {
     pub direct: CowStr<'a, Global>,
@@ -95,7 +95,7 @@ pub(crate) struct Objects<'a> {
     pub indirect: CowStr<'a, Global>,
 }
 
-/// What stands round the preposition that counts.
+/// Returns the objects before and after the preposition that counts.
 fn objects_of<'a>(alloc: Global, args: &[CowStr<'a, Global>]) -> Result<Objects<'a>, AllocError>
     ensures { IfOk result (λ o. (verb rest : List ℕ) →
         line_with verb (map cow_str_bytes args.now) rest o ≡ split verb (map cow_str_bytes args.now) rest) }
@@ -117,7 +117,7 @@ fn objects_of<'a>(alloc: Global, args: &[CowStr<'a, Global>]) -> Result<Objects<
     })
 }
 
-/// The words, joined by one space. A lone word that is a piece of the line is not copied.
+/// Returns the words joined by one space. A single borrowed word is not copied.
 fn join_words<'a>(
     alloc: Global,
     words: &[CowStr<'a, Global>],
@@ -131,7 +131,7 @@ fn join_words<'a>(
     }
 }
 
-// The words, joined by one space, in a new text.
+// Returns the words joined by one space, in a new text.
 fn joined_text(alloc: Global, words: &[CowStr<'_, Global>]) -> Result<String, AllocError>
     ensures { IfOk result (λ text. string_bytes text ≡ join_words (map cow_str_bytes words.now)) }
 {
@@ -147,7 +147,7 @@ fn joined_text(alloc: Global, words: &[CowStr<'_, Global>]) -> Result<String, Al
     Ok(text)
 }
 
-// The bytes of the words and one more for each: room for them, joined.
+// Returns the capacity for the joined words: their bytes, and one more for each word.
 fn room_for(words: &[CowStr<'_, Global>]) -> usize {
     let mut room: usize = 0;
     for word in words {

@@ -1,4 +1,4 @@
--- A world stays sound when new objects are added.
+-- A world stays sound when objects are added.
 use Rattle.std.proofs.Common.{◌≡◌, ℕ, zero, suc, ◌+◌, ◌≤◌, Bool, true, false, cond, List, [], ◌∷◌, ◌++◌, length, Some}
 use Rattle.std.proofs.Common.{None, refl, sym, ◌∙◌, ap, subst, arith}
 use Rattle.std.specs.Prelude.{nat_eq, is_some, IfSome}
@@ -51,7 +51,7 @@ module _ (w : State) (sound : IsSound w) (rs : List Record) (room : w.next + len
     new_at : (n : ℕ) → record_at w n ≡ None → record_at w' n ≡ lookup (nat_eq n) (enumerate_from w.next rs)
     new_at n at = lookup-append_right n w.objects (enumerate_from w.next rs) at
 
-    -- an object of the new world is old, or new
+    -- an object of the new world is an old one or the new one
     either_at : {P : Type 0} (n : ℕ) (r : Record) → record_at w' n ≡ Some r → (record_at w n ≡ Some r → P)
         → (record_at w n ≡ None → IsNew w w' r → P) → P
     either_at n r at f g =

@@ -1,4 +1,4 @@
--- Askers put into lists and taken out again.
+-- Insertion of askers into lists, and their removal.
 use Rattle.std.proofs.Common.{◌≡◌, ℕ, Bool, true, false, cond, not, ◌&&◌, ◌||◌, List, [], ◌∷◌, ◌++◌, refl, sym, ◌∙◌, ap}
 use Rattle.std.proofs.Common.{inl, inr, ⊎_elim}
 use Rattle.std.specs.Prelude.{nat_eq, nat_lt, IsTrue}
@@ -77,17 +77,18 @@ without-inserted n (x ∷ xs) =
     ap (λ b. without n (cond b (n ∷ x ∷ xs) (x ∷ insert n xs))) e
     ∙ ap (λ v. cond (not (nat_eq x n)) (x ∷ v) v) (without-inserted n xs))
 
--- ---- what a node asks
+-- ---- the questions of a node
 abbrev pub asks_node : Node ℕ → ℕ → Bool
 asks_node k n = list_any (nat_eq n) (asks_of (tree_of k))
 
--- a joined key asks what its two keys ask
+-- a join asks the questions of its two keys
 pub asks-either : (k a b l r : Node ℕ) → asks_of (tree_of k) ≡ asks_of (tree_of a) ++ asks_of (tree_of b) → l ≡ a
     → r ≡ b → (n : ℕ) → asks_node k n ≡ (asks_node l n || asks_node r n)
 asks-either k a b l r is left right n =
     rw (is, left, right) (list_any-append (nat_eq n) (asks_of (tree_of a)) (asks_of (tree_of b)))
 
--- ---- changes one after the other, of f done twice as once
+-- ---- successive changes by f
+-- f is idempotent
 module _ (p q t : ℕ → Bool) (whole : (n : ℕ) → t n ≡ (p n || q n)) (f : List ℕ → List ℕ)
     (twice : (xs : List ℕ) → f (f xs) ≡ f xs) (l l1 l2 : List (ℕ × List ℕ)) where
   step : (a b : Bool) (xs : List ℕ) → cond b (f (cond a (f xs) xs)) (cond a (f xs) xs) ≡ cond (a || b) (f xs) xs
@@ -126,7 +127,7 @@ pub split_and : (k a b : Bool) → (not k && (a || b)) ≡ ((not k && a) || (not
 split_and true a b = refl
 split_and false a b = refl
 
--- what was put in is taken out again, but where it was before
+-- an inserted number is removed again, except where it was before
 pub taken_out : (m : ℕ) (new old : ℕ → Bool) (l l1 l2 : List (ℕ × List ℕ))
     → ((n : ℕ) → list_any (nat_eq m) (list_at l n) ≡ old n) → AreBetween new (put m) l l1
     → AreChanged (λ n. not (old n) && new n) (without m) l1 l2 → AreSame l l2
@@ -158,7 +159,7 @@ taken_out m new old l l1 l2 known between is = λ n.
     either true xs = refl
     either false xs = refl
 
--- what was put into lists that did not have it is taken out again
+-- a number inserted into lists that did not have it is removed again
 pub inserted-out : (m : ℕ) (t : ℕ → Bool) (l l1 l2 : List (ℕ × List ℕ))
     → ((n : ℕ) → list_any (nat_eq m) (list_at l n) ≡ false) → AreChanged t (insert m) l l1
     → AreChanged t (without m) l1 l2 → AreSame l l2

@@ -1,4 +1,4 @@
--- Going downwards through contents gives what an object carries.
+-- Descending through contents gives everything that an object carries.
 use Rattle.std.proofs.Common.{◌≡◌, ℕ, zero, suc, ◌+◌, ◌<◌, ◌≤◌, Bool, true, false, cond, ◌||◌, List, [], ◌∷◌, ◌++◌}
 use Rattle.std.proofs.Common.{length, get_or, Option, Some, None, refl, sym, ◌∙◌, ap, subst, arith, ⊎_elim}
 use Rattle.std.specs.Prelude.{Result, Ok, Err, IfOk, IsTrue, ◌↔◌, nat_eq, is_some, slice_get}
@@ -55,7 +55,7 @@ listed test o low high (e ∷ es) rises =
     (λ out. listed_by test o e es false out ∙ rest ∙ sym (ap (λ v. option_map_or test v false) found)))
 
 module _ (w : State) (sound : IsSound w) where
-  -- what lies in n has n as its place
+  -- the objects inside n have n as their place
   listed-contents : (o n : ℕ)
       → list_any (nat_eq o) (contents_of w n)
       ≡ option_map_or (λ r. is_number n (kind_place r.kind)) (record_at w o) false
@@ -101,7 +101,7 @@ module _ (w : State) (sound : IsSound w) where
       of_kind (Player q) e well = let same : q ≡ p = cc in
           subst (λ (v : ℕ). exists w v ≡ true) same (has_exists w (λ r. is_room_kind r.kind) q well)
 
--- ---- the numbers found so far, of which the first i were looked into
+-- ---- the numbers found so far; the contents of the first i have been visited
 pub record Gathers (w : State) (c : ℕ) (keys : List ℕ) (i : ℕ) : Type 0 where
   pub inside : (o : ℕ) → list_any (nat_eq o) keys ≡ true → Within w o c
   pub first : exists w c ≡ true → list_any (nat_eq c) keys ≡ true
@@ -163,7 +163,7 @@ any-all o (x ∷ xs) ks =
     ∙ ap (λ b. b || list_any (nat_eq o) xs) (any-one o x ks)
     ∙ sym (or-more (list_any (nat_eq o) ks) (nat_eq o x) (list_any (nat_eq o) xs))
 
--- nothing was looked into yet: there is only c, if it exists
+-- at first there is only c, if it exists
 pub gathers-one : (w : State) (c : ℕ) (keys : List ℕ) → exists w c ≡ true → keys ≡ insert_key nat_eq [] c
     → Gathers w c keys 0
 gathers-one w c keys there is = record {
@@ -192,7 +192,7 @@ member-at p (x ∷ ks) among =
     (or_cases _ _ among)
 
 module _ (w : State) (sound : IsSound w) (c : ℕ) where
-  -- one more looked into: what was found stands where it stood, and what lies in the one is found, too
+  -- one more object is visited: the numbers found keep their places, and its contents are added
   pub gathers-on : (keys keys' : List ℕ) (i at : ℕ) → Gathers w c keys i → slice_get keys i ≡ Some at
       → i < length keys → ((j : ℕ) → j < length keys → slice_get keys' j ≡ slice_get keys j)
       → ((o : ℕ) → list_any (nat_eq o) keys' ≡ (list_any (nat_eq o) keys || list_any (nat_eq o) (contents_of w at)))
@@ -224,7 +224,7 @@ module _ (w : State) (sound : IsSound w) (c : ℕ) where
       at-among at zero (x ∷ ks) got = let same : x ≡ at = cc in or_left _ _ (eq-eqb at x (sym same))
       at-among at (suc i) (x ∷ ks) got = or_right (nat_eq at x) _ (at-among at i ks got)
 
-  -- each number once
+  -- each number occurs once
   pub gathers-more : (keys keys' : List ℕ) (i at : ℕ) → Gathers w c keys i → slice_get keys i ≡ Some at
       → i < length keys → keys' ≡ insert_all nat_eq keys (contents_of w at) → Gathers w c keys' (i + 1)
   gathers-more keys keys' i at was here lt is =
@@ -232,7 +232,7 @@ module _ (w : State) (sound : IsSound w) (c : ℕ) where
       (λ j low. ap (λ v. slice_get v j) is ∙ keys-kept (contents_of w at) keys j low)
       (λ o. ap (list_any (nat_eq o)) is ∙ any-all o (contents_of w at) keys)
 
-  -- there are no more than there are numbers
+  -- there are at most as many as there are numbers
   pub gathers-few : (keys : List ℕ) (i : ℕ) → Gathers w c keys i → IsDistinct nat_eq keys → length keys ≤ w.next
   gathers-few keys i all distinct =
       length-le_from_distinct_below keys w.next distinct (λ q among. low q (all.inside q among).0)
@@ -243,7 +243,7 @@ module _ (w : State) (sound : IsSound w) (c : ℕ) where
           (λ e. absurd (true≢false (sym there ∙ ap is_some e)))
           (λ r e. (in_bounds 0 w.next q r w.objects sound.rising e).1)
 
-  -- where all were looked into, they are the holding
+  -- when all are visited, they are the holding
   pub gathers-all : (keys : List ℕ) (i : ℕ) → Gathers w c keys i → length keys ≤ i → IsHolding w c keys
   gathers-all keys i all done = λ o.
       bool_cases (list_any (nat_eq o) keys)
@@ -266,7 +266,7 @@ module _ (w : State) (sound : IsSound w) (c : ℕ) where
           let low = held.1 in
           all.closed held.0 p o (omega (arith, low, done)) held.2 e)
 
--- the members of a holding are what lies within
+-- the members of a holding are the objects inside the candidate
 pub holding-members : (w : State) → IsSound w → (c : ℕ) (held : List ℕ) → IsHolding w c held → (o : ℕ)
     → IsTrue (list_any (nat_eq o) held) ↔ Within w o c
 holding-members w sound c held is o =
@@ -283,7 +283,7 @@ get-some [] i x got = absurd (let bad : None ≡ Some x = got in cc)
 get-some (y ∷ ks) zero x got = omega arith
 get-some (y ∷ ks) (suc i) x got = let rest = get-some ks i x got in omega (arith, rest)
 
--- no object has a number that was not given yet
+-- a number that was not given yet names no object
 pub missing-above : (w : State) → IsSound w → (o : ℕ) → w.next ≤ o → record_at w o ≡ None
 missing-above w sound o le =
     record_cases (record_at w o)
@@ -298,7 +298,7 @@ get_or-past [] i le = refl
 get_or-past (x ∷ xs) zero le = absurd (omega arith)
 get_or-past (x ∷ xs) (suc i) le = get_or-past xs i (omega arith)
 
--- the answers of a level less give those of the next
+-- the results of a level give those of the next
 pub next-level : (w : State) (held : ℕ → Bool) (before : List Bool) (n : ℕ)
     → ((o : ℕ) → get_or before o false ≡ unlocked_in w n held o) → (o : ℕ)
     → has w o (λ r. option_map_or (key_true held (λ a. get_or before a false)) r.key true)

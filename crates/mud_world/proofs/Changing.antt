@@ -14,7 +14,7 @@ use Rattle.mud_world.proofs.Places.{option_cases, follow_by, no_circle-from_end}
 use Rattle.mud_world.proofs.Records.{lookup-set_value_same, lookup-set_value_other, IsRising-set_value}
 use Rattle.mud_world.proofs.Moving.{ends_before}
 
--- the new record is of the same kind at the same place, and fit
+-- the new record has the same kind and place, and is valid
 pub record IsLike (w : State) (r r' : Record) : Type 0 where
   pub room : is_room_kind r'.kind ≡ is_room_kind r.kind
   pub exit : is_exit_kind r'.kind ≡ is_exit_kind r.kind
@@ -34,7 +34,7 @@ module _ (w : State) (sound : IsSound w) (n : ℕ) (r r' : Record) (at : record_
   there : (q : ℕ) → q ≢ n → record_at w' q ≡ record_at w q
   there q apart = lookup-set_value_other n q apart r' w.objects
 
-  -- an answer that both records give alike stays
+  -- an answer that is equal for both records does not change
   pub answer-kept : {X : Type 0} (f : Option Record → X) → f (Some r') ≡ f (Some r) → (q : ℕ)
       → f (record_at w' q) ≡ f (record_at w q)
   answer-kept f same q =
@@ -70,7 +70,7 @@ module _ (w : State) (sound : IsSound w) (n : ℕ) (r r' : Record) (at : record_
       (λ e. follow_by w' k q None (place_kept q ∙ e))
       (λ p e. follow_by w' k q (Some p) (place_kept q ∙ e) ∙ follow_kept k p (sym (follow_by w k q (Some p) e) ∙ ends))
 
-  -- what holds of each old record and of the new one holds of each
+  -- a fact about each old record and about the new one holds for each record
   pub each-kept : (P : Record → Type 0) → P r' → ((q : ℕ) (s : Record) → record_at w q ≡ Some s → P s)
       → (q : ℕ) (s : Record) → record_at w' q ≡ Some s → P s
   each-kept P new old q s is =

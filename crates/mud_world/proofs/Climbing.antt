@@ -1,5 +1,5 @@
--- After a lock, each key nests at most 3 exactly where the questions that lead to the object and those that its key
--- begins are at most 3 together.
+-- After a lock, each key nests at most 3 exactly if the questions that lead to the object and those that its key begins
+-- are at most 3 together.
 use Rattle.std.proofs.Common.{◌≡◌, ◌≢◌, ℕ, zero, suc, ◌+◌, ◌-◌, ◌<◌, ◌≤◌, Bool, true, false, not, List, [], ◌∷◌, length}
 use Rattle.std.proofs.Common.{drop, get_or, Option, Some, None, refl, sym, ◌∙◌, ap, subst, arith, inl, inr, ⊎_elim}
 use Rattle.std.specs.Prelude.{nat_eq, ◌⊎◌}
@@ -21,7 +21,7 @@ use Rattle.mud_world.proofs.Levels.{list_all-found}
 use Rattle.mud_world.proofs.Locking.{locked_by, locked-missing, key_of-locked_same, key_of-locked_other}
 use Rattle.mud_world.proofs.Nested.{questions-few, questions-more, questions-join, circles_law}
 
--- ---- each key that a world has, and the test of all of them
+-- ---- the keys of a world, and the test of all of them
 pub all_nest-found : (w : State) → all_nest w ≡ true → (a : ℕ) (k : Tree ℕ) → key_of w a ≡ Some k → nests w 3 k ≡ true
 all_nest-found w all a k at =
     record_cases (record_at w a)
@@ -48,7 +48,7 @@ all_nest-each w rising each =
     by None f = refl
     by (Some k) f = f k refl
 
--- ---- ways that lead upwards
+-- ---- chains that lead upwards
 any-some : (p : ℕ → Bool) (xs : List ℕ) → list_any p xs ≡ true
     → (c : ℕ) × (list_any (nat_eq c) xs ≡ true) × (p c ≡ true)
 any-some p [] any = absurd (true≢false (sym any))
@@ -78,7 +78,7 @@ unsnoc w (suc n) a o way = let rest = unsnoc w n way.0 o way.2 in (rest.0, (way.
 zero-is : (n : ℕ) → n ≤ 0 → 0 ≡ n
 zero-is n le = omega (arith, le)
 
--- the end of a longer way
+-- a suffix of a longer chain
 shorter : (w : State) (n m a o : ℕ) → n ≤ m → Questions w m a o → (b : ℕ) × Questions w n b o
 shorter w n zero a o le way = (a, subst (λ (v : ℕ). Questions w v a o) (zero-is n le) way)
 shorter w n (suc m) a o le way =
@@ -123,7 +123,7 @@ module _ (w : State) (sound : IsSound w) where
       let parts = unsnoc w n a o way in
       some-any (climbs w n) parts.0 (askers_of w o) (question-asker parts.0 o parts.2) (way-climb n a parts.0 parts.1)
 
-  -- no way in the world is longer than 3
+  -- no chain of the world is longer than 3
   pub ways-few : (m a b : ℕ) → Questions w m a b → m ≤ 3
   ways-few zero a b way = omega arith
   ways-few (suc m) a b way =
@@ -143,7 +143,7 @@ module _ (w : State) (sound : IsSound w) where
     old_question a b apart q =
         record { key = q.key; is = sym (key_of-locked_other w n key a apart) ∙ q.is; asks = q.asks }
 
-    -- a way of the new world is one of the old, or comes to the object and goes on by its key
+    -- a chain of the new world is one of the old world, or reaches the object and continues with its key
     split : (m a b : ℕ) → Questions w' m a b
         → Questions w m a b ⊎ ((i : ℕ) × (j : ℕ) × (m ≡ i + j) × Questions w i a n × Questions w' j n b)
     split zero a b way = inl way
@@ -159,7 +159,7 @@ module _ (w : State) (sound : IsSound w) where
         (split m way.0 b way.2))
         (cases_eq a n)
 
-    -- a way of the old world to the object is one of the new: it does not pass the object before
+    -- a chain of the old world to the object is one of the new world, because it passes the object only at its end
     lift : (m a : ℕ) → Questions w m a n → Questions w' m a n
     lift zero a way = way
     lift (suc m) a way =
@@ -208,7 +208,7 @@ module _ (w : State) (sound : IsSound w) where
         few_of (suc t) a b all way =
             questions-few w' 3 a way.1.key way.1.is (all_nest-found w' all a way.1.key way.1.is) (suc t) b way
 
-    -- a key that asks nothing is within
+    -- a key without questions is within the bound
     pub nest-plain : nests w' 0 key ≡ true → all_nest w' ≡ true
     nest-plain nest =
         nest-within 0 (omega arith) nest

@@ -1,4 +1,4 @@
--- What a dig adds, one object after the other, and what taking one back leaves.
+-- The objects that a dig adds one at a time, and the result of removing one again.
 use Rattle.std.proofs.Common.{◌≡◌, ℕ, ◌+◌, ◌-◌, ◌<◌, ◌≤◌, Bool, true, false, cond, List, [], ◌∷◌, ◌++◌, length, Option}
 use Rattle.std.proofs.Common.{Some, None, refl, sym, ◌∙◌, ap, subst, arith}
 use Rattle.std.specs.Prelude.{nat_eq, unwrap_or}
@@ -70,7 +70,7 @@ CanJoin-grown w rs a b join =
 pub CanJoin-flip : (w : State) (a b : ℕ) → CanJoin w a b → CanJoin w b a
 CanJoin-flip w a b join = record { from = join.to; to = join.from }
 
--- one after the other
+-- one at a time
 pub with_new-more : (w : State) (r : Record) (rs : List Record)
     → with_new (with_new w (r ∷ [])) rs ≡ with_new w (r ∷ rs)
 with_new-more w r rs = λ i. record {
@@ -133,7 +133,7 @@ CanJoin-dig_new w sound a names doors legal = record {
       (record-new w (new_record a names Room) (next_missing w sound));
 }
 
--- ---- taking back what was added last
+-- ---- removing the object that was added last
 last-above : (low high n : ℕ) (r : Record) (es : List (ℕ × Record)) → IsRising low (es ++ (n, r) ∷ []) high → low ≤ n
 last-above low high n r [] rises = rises.0
 last-above low high n r (e ∷ es) rises = let rest = last-above (e.0 + 1) high n r es rises.1 in let le = rises.0 in

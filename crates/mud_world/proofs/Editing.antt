@@ -1,4 +1,4 @@
--- The record of an object changes, and its place and its ends do not.
+-- The record of an object changes, but not its place and its ends.
 use Rattle.std.proofs.Common.{◌≡◌, ℕ, Some, ap}
 use Rattle.std.specs.Option.{option_map, option_map_or}
 use Rattle.mud_world.specs.declared.record.Record.{Record}
@@ -12,7 +12,7 @@ pub changed_by : (w : State) (n : ℕ) (f : Record → Record) (r : Record) → 
     → with_record_changed w n f ≡ with_record w n (f r)
 changed_by w n f r at = ap (λ v. option_map_or (λ r. with_record w n (f r)) v w) at
 
--- the place and the ends of both are the same
+-- both have the same place and the same ends
 pub record SameLinks (k l : Kind) : Type 0 where
   pub place : kind_place k ≡ kind_place l
   pub source : option_map (λ p. p.source) (kind_passage k) ≡ option_map (λ p. p.source) (kind_passage l)

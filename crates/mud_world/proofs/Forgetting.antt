@@ -1,4 +1,4 @@
--- The numbers that pass a test after an object was taken away.
+-- The numbers that pass a test after an object is removed.
 use Rattle.std.proofs.Common.{◌≡◌, ◌≢◌, ℕ, ◌+◌, Bool, true, false, cond, List, [], ◌∷◌, Some, refl, sym, ◌∙◌, ap, arith}
 use Rattle.std.specs.Prelude.{nat_eq, not}
 use Rattle.std.specs.Map.{lookup, remove_entry}

@@ -1,4 +1,4 @@
--- What a legal walk or move needs, and what it leaves of the fields.
+-- The premises of a legal walk or move, and its effect on the fields.
 use Rattle.std.proofs.Common.{◌≡◌, ◌≢◌, ℕ, zero, suc, ◌<◌, ◌≤◌, Bool, true, false, cond, List, [], ◌∷◌, Some, None}
 use Rattle.std.proofs.Common.{refl, sym, ◌∙◌, ap, subst, ⊎_elim}
 use Rattle.std.specs.Prelude.{nat_eq, is_some, find, Result, Ok, Err, OnOk, OnErr}
@@ -31,7 +31,7 @@ find_none p (x ∷ xs) none =
     (λ e. let bad : Some x ≡ None = sym (ap (λ b. cond b (Some x) (find p xs)) e) ∙ none in absurd (cc))
     (λ e. (e, find_none p xs (sym (ap (λ b. cond b (Some x) (find p xs)) e) ∙ none)))
 
--- nothing holds against a legal change
+-- no condition refuses a legal change
 pub nothing_fails : (w : State) (e : Change) → refusal w e ≡ None → AllByRecursion (λ f. fails w e f ≡ false) refusals
 unfolding refusal
 nothing_fails w e legal = find_none (fails w e) refusals legal
@@ -40,7 +40,7 @@ pub moved_by : (w : State) (t y : ℕ) (r : Record) → record_at w t ≡ Some r
     → with_place w t y ≡ with_record w t (record r { kind = kind_at y r.kind })
 moved_by w t y r at = ap (λ v. option_map_or (λ r. with_record w t (record r { kind = kind_at y r.kind })) v w) at
 
--- what comes back to where it was is where it was
+-- an object that returns to its place leaves the world unchanged
 same_record : (w : State) (t : ℕ) (r : Record) → record_at w t ≡ Some r → with_record w t r ≡ w
 same_record w t r at = ap (λ v. record w { objects = v }) (set_value_same (nat_eq t) w.objects r at)
 
@@ -117,7 +117,7 @@ module _ (w : State) (sound : IsSound w) (a x : ℕ)
       off_at (suc k) e = let bad : None ≡ Some a = sym (follow_by w k d None (room_place d (leads_to_room d at)))
           ∙ e in cc
 
--- a fact that holds whichever way a call went
+-- a fact that holds whether or not a call succeeded
 
 -- ---- a legal move
 module _ (w : State) (sound : IsSound w) (a t y : ℕ)
@@ -187,7 +187,7 @@ module _ (w : State) (sound : IsSound w) (a t y : ℕ)
       placed (Thing p) e f = let bad : Some p ≡ None = f in cc
       placed (Player p) e f = true≢false (sym e)
 
--- what follows from two facts of either way
+-- a consequence of the two facts about either outcome
 pub either_way : {T E P P' Q Q' X : Type 0} (r : Result T E) → OnOk r P → OnOk r P' → OnErr r Q → OnErr r Q'
     → (P → P' → X) → (Q → Q' → X) → X
 either_way (Ok x) p p' q q' f g = f p p'

@@ -1,4 +1,4 @@
--- Who has a name, by the map of the names.
+-- The holder of a name, by the map of names.
 use Rattle.std.proofs.Common.{◌≡◌, ◌≢◌, ℕ, ◌+◌, Bool, true, false, cond, ◌||◌, ◌&&◌, not, List, [], ◌∷◌, Option, Some}
 use Rattle.std.proofs.Common.{None, refl, sym, ◌∙◌, ap, arith}
 use Rattle.std.specs.Prelude.{nat_eq, find}
@@ -22,7 +22,7 @@ option_cases : {P : Type 0} (o : Option ℕ) → (o ≡ None → P) → ((n : �
 option_cases None f g = f refl
 option_cases (Some n) f g = g n refl
 
--- being found is being a player with the name
+-- an object is found by a name exactly if it is a player with the name
 called-is : (r : Record) (t : List ℕ) → among t (names_to_find r) ≡ (is_player_kind r.kind && among t r.names)
 called-is r t = by_kind (is_player_kind r.kind)
   where
@@ -30,7 +30,7 @@ called-is r t = by_kind (is_player_kind r.kind)
     by_kind true = refl
     by_kind false = refl
 
--- ---- the player of a name
+-- ---- the player with a name
 
 none-found : (t : List ℕ) (es : List (ℕ × Record))
     → option_map (λ (e : ℕ × Record). e.0) (find (λ e. is_player_kind e.1.kind && among t e.1.names) es) ≡ None
@@ -96,7 +96,7 @@ taker-is n t e =
     ap (λ b. not (nat_eq n e.0) && (is_player_kind e.1.kind && b)) (shares-one t e.1.names)
     ∙ ap (λ b. not (nat_eq n e.0) && b) (sym (called-is e.1 t))
 
--- one other has it
+-- one other player has it
 one-takes : (n m : ℕ) (t : List ℕ) (es : List (ℕ × Record)) → m ≢ n
     → option_map_or (λ r. among t (names_to_find r)) (lookup (nat_eq m) es) false ≡ true
     → list_any (taker n (t ∷ [])) es ≡ true
@@ -121,7 +121,7 @@ one-takes n m t (e ∷ es) apart is =
     or_second true b e = refl
     or_second false b e = e
 
--- no other has it
+-- no other player has it
 none-takes : (n : ℕ) (t : List ℕ) (low high : ℕ) (es : List (ℕ × Record)) → IsRising low es high
     → ((m : ℕ) → m ≢ n → option_map_or (λ r. among t (names_to_find r)) (lookup (nat_eq m) es) false ≡ false)
     → list_any (taker n (t ∷ [])) es ≡ false
@@ -169,7 +169,7 @@ taken-one w sound o names n t =
     owner : Option ℕ
     owner = owner_of o (str_to_ascii_lowercase t)
 
--- one name after the other
+-- one name at a time
 pub taken-more : (w : State) (n : ℕ) (t : List ℕ) (names : List (List ℕ))
     → is_taken w n (t ∷ names) ≡ (is_taken w n (t ∷ []) || is_taken w n names)
 taken-more w n t names = go w.objects

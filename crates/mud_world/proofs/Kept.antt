@@ -1,4 +1,4 @@
--- What the maps say after each kind of edit: the lists are those of the new world, and the world is sound.
+-- The maps after each kind of edit: the lists are those of the new world, and the world is sound.
 use Rattle.std.proofs.Common.{◌≡◌, ℕ, ◌+◌, Bool, false, cond, not, ◌&&◌, List, [], ◌∷◌, ◌++◌, Option, Some, None, refl}
 use Rattle.std.proofs.Common.{sym, ◌∙◌, ap, subst}
 use Rattle.std.specs.Prelude.{nat_eq}
@@ -36,9 +36,9 @@ use Rattle.mud_world.proofs.Moving.{sound-moved}
 use Rattle.mud_world.proofs.Grown.{sound-grown, next_missing}
 use Rattle.mud_world.proofs.Owned.{names-same, names-grown, names-removed, names-edited, names-renamed, kind-placed}
 
--- ---- one map of lists, whatever its test
+-- ---- one map of lists, for any test
 
--- the same lists are those of an equal world
+-- the lists of a world are those of an equal world
 pub of-same : (test : ℕ → Record → Bool) (w w' : State) (l l' : List (ℕ × List ℕ)) → w' ≡ w → AreOf test l w
     → AreSame l l' → AreOf test l' w'
 of-same test w w' l l' is of same = λ n. same n ∙ of n ∙ ap (λ v. passing (test n) v.objects) (sym is)
@@ -49,14 +49,14 @@ pub of-grown : (test : ℕ → Record → Bool) (w : State) → IsSound w → (r
 of-grown test w sound r l l' of is = λ n. is n ∙ ap (λ v. cond (test n r) (insert w.next v) v) (of n)
     ∙ grown w sound r (test n)
 
--- an object is gone
+-- an object was removed
 pub of-removed : (test : ℕ → Record → Bool) (w : State) → IsRising 0 w.objects w.next → (o : ℕ) (r : Record)
     → record_at w o ≡ Some r → (l l' : List (ℕ × List ℕ)) → AreOf test l w
     → AreChanged (λ n. test n r) (without o) l l' → AreOf test l' (without_object w o)
 of-removed test w rising o r at l l' of is = λ n. is n ∙ ap (λ v. cond (test n r) (without o v) v) (of n)
     ∙ shrunk w rising o r at (test n)
 
--- a record changed, and what the test says of it did not
+-- a record changed, and the test's result for it did not
 pub of-edited : (test : ℕ → Record → Bool) (w : State) (o : ℕ) (r r' : Record) → record_at w o ≡ Some r
     → ((n : ℕ) → test n r' ≡ test n r) → (l : List (ℕ × List ℕ)) → AreOf test l w
     → AreOf test l (with_record w o r')
@@ -95,16 +95,16 @@ of-rekeyed w rising o r at key l l' of is = λ n.
     (λ old. ap (λ b. cond b (without o here) here) old
     ∙ sym (passing-keep (asks_it n) o (with_key key r) r w.objects at (new ∙ sym old))))
 
--- ---- the world that the maps are seen as
+-- ---- the world as the model of the maps
 pub edited_by : (n : ℕ) (f : Record → Record) (es : List (ℕ × Record)) (r : Record) → lookup (nat_eq n) es ≡ Some r
     → edit n f es ≡ set_value (nat_eq n) es (f r)
 edited_by n f es r at = ap (λ v. option_map_or (λ r. set_value (nat_eq n) es (f r)) v es) at
 
--- lists that nothing changed are the same
+-- unchanged lists are equal
 pub links-stay : (l : Links) → AreSameLinks l l
 links-stay l = record { contents = λ n. refl; leaving = λ n. refl; arriving = λ n. refl }
 
--- ---- what is not there yet
+-- ---- objects that do not exist yet
 pub new-in_none : (a : Inside) → IsKept a → IsInNone a.next a.links
 new-in_none a kept =
     record {
@@ -173,7 +173,7 @@ module _ (a a' : Inside) (kept : IsKept a) where
               (names-grown w kept.sound r can a.owners a'.owners kept.names passed);
         }
 
-  -- an object is gone that is found by no name; the next number may be another
+  -- an object that no name finds was removed; the next number may differ
   module _ (n : ℕ) (r : Record) (at : record_at w n ≡ Some r)
       (records : a'.records.entries ≡ remove_entry (nat_eq n) a.records.entries) where
     state-removed : state_of a' ≡ record (without_object w n) { next = a'.next }
@@ -206,7 +206,7 @@ module _ (a a' : Inside) (kept : IsKept a) where
               (names-removed w kept.sound.rising n r at nameless a.owners a'.owners kept.names owners);
         }
 
-  -- a record changed, and its place, its ends and its names did not
+  -- a record changed, but not its place, its ends and its names
   module _ (n : ℕ) (f : Record → Record) (r : Record) (at : record_at w n ≡ Some r) (next : a'.next ≡ a.next)
       (records : a'.records.entries ≡ edit n f a.records.entries) where
     pub state-edited : state_of a' ≡ with_record_changed w n f
@@ -214,7 +214,7 @@ module _ (a a' : Inside) (kept : IsKept a) where
         (λ i. record { objects = (records ∙ edited_by n f a.records.entries r at) i; next = next i })
         ∙ sym (changed_by w n f r at)
 
-    -- the lists of a test that says the same of both records
+    -- the lists of a test that gives the same result for both records
     edited_of : (test : ℕ → Record → Bool) → ((m : ℕ) → test m (f r) ≡ test m r) → (l l' : List (ℕ × List ℕ))
         → AreOf test l w → AreSame l l' → AreOf test l' (state_of a')
     edited_of test same l l' of is =

@@ -14,7 +14,7 @@ use Rattle.mud_world.specs.Kinds.{is_player_kind}
 use Rattle.mud_world.specs.State.{State, record_at, exists, key_of, nests, all_nest}
 use Rattle.mud_world.specs.Sound.{IsSound}
 use Rattle.mud_world.specs.Legal.{refusal}
-use Rattle.mud_world.specs.inner.Fields.{with_record, with_key, is_bad_key}
+use Rattle.mud_world.specs.inner.Fields.{with_record, with_key}
 use Rattle.mud_world.specs.inner.CanGo.{CanKey}
 use Rattle.mud_world.proofs.Records.{record_cases, bool_cases, in_bounds, lookup-set_value_same, lookup-set_value_other}
 use Rattle.mud_world.proofs.Numbering.{set_here, set_past}
@@ -66,7 +66,7 @@ list_all-set p n r (e ∷ es) new all =
     (λ past. ap (list_all (λ e. p e.1)) (set_past n r e es past)
     ∙ and_from _ _ parts.0 (list_all-set p n r es new parts.1))
 
--- without a key nothing nests deeper
+-- removing a key makes no key nest deeper
 nesting-unlocked : (w : State) → IsSound w → (n : ℕ) (r : Record) → record_at w n ≡ Some r
     → all_nest (with_key w n None) ≡ true
 nesting-unlocked w sound n r at =
@@ -121,7 +121,9 @@ numbers-below w sound (Join op a b) none =
     let parts = any-parts _ (atoms_of a) (atoms_of b) none in
     (numbers-below w sound a parts.0, numbers-below w sound b parts.1)
 
-key-within : (w : State) → IsSound w → (key : Tree ℕ) → is_bad_key w key ≡ false → IsKey key
+key-within : (w : State) → IsSound w → (key : Tree ℕ)
+    → (list_any (λ o. not (exists w o)) (atoms_of key)
+    || (nat_lt MOST_OBJECTS (objects_of key) || nat_lt MOST_NOTS (nots_of key))) ≡ false → IsKey key
 key-within w sound key good =
     let parts = or_parts (list_any (λ o. not (exists w o)) (atoms_of key)) _ good in
     let counts = or_parts (nat_lt MOST_OBJECTS (objects_of key)) (nat_lt MOST_NOTS (nots_of key)) parts.1 in

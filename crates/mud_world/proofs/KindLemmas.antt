@@ -1,4 +1,4 @@
--- What an object is stays as it was where it gets another place.
+-- The kind of an object does not change when it moves.
 use Rattle.std.proofs.Common.{◌≡◌, ℕ, refl}
 use Rattle.mud_world.specs.declared.record.Kind.{Kind}
 use Rattle.mud_world.specs.declared.record.Kind.TheVariants.{Room, Exit, Thing, Player}

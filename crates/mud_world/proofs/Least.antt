@@ -1,4 +1,4 @@
--- The refusal of a change is the least whose condition holds.
+-- The refusal of a change is the least one whose condition holds.
 use Rattle.std.proofs.Common.{◌≡◌, ℕ, ◌≤◌, Bool, true, false, cond, not, ◌&&◌, ◌||◌, List, [], ◌∷◌, Option, Some, None}
 use Rattle.std.proofs.Common.{refl, sym, ◌∙◌, ap, arith, ⊎_elim, lit≤}
 use Rattle.std.specs.Prelude.{nat_eq, find, ◌↔◌}
@@ -23,7 +23,7 @@ refusal_cases : {P : Type 0} (v : Option Refusal) → (v ≡ None → P) → ((f
 refusal_cases None f g = f refl
 refusal_cases (Some r) f g = g r refl
 
--- ---- a refusal is known by its number
+-- ---- the number of a refusal identifies it
 abbrev every : List Refusal
 every =
     NotUnderstood ∷ NoSuch ∷ Ambiguous ∷ WrongKind ∷ NotHere ∷ Denied ∷ BadName ∷ NameTaken ∷ BadKey ∷ KeyNesting
@@ -138,7 +138,7 @@ rise = (
   ),
 )
 
--- ---- refusals that only lines have refuse no change
+-- ---- refusals of lines only do not refuse changes
 not_understood : (w : State) (a : ℕ) (d : Deed) → deed_fails w a d NotUnderstood ≡ false
 not_understood w a (Dig target doors) = refl
 not_understood w a d = refl

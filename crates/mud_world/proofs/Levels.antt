@@ -23,7 +23,7 @@ each-from p P f [] all = tt
 each-from p P f (x ∷ xs) all = let parts = and_parts (p x) (list_all p xs) all in
     (f x parts.0, each-from p P f xs parts.1)
 
--- the truth of a key hangs only on the objects that it asks
+-- the truth of a key depends only on the objects that it asks about
 same-truth : (held f g : ℕ → Bool) (k : Tree ℕ) → AllByRecursion (λ o. f o ≡ g o) (asks_of k)
     → key_true held f k ≡ key_true held g k
 same-truth held f g (Has n) all = refl
@@ -34,7 +34,7 @@ same-truth held f g (Join op a b) all =
     ap (λ v. truth_of_join op v (key_true held f b)) (same-truth held f g a parts.0)
     ∙ ap (truth_of_join op (key_true held g a)) (same-truth held f g b parts.1)
 
--- the key that an option has is true with n levels and with one more
+-- the key in an option is true with n levels exactly if it is with one more
 by_key : (w : State) (held : ℕ → Bool) (n : ℕ)
     (more : (k : Tree ℕ) → nests w n k ≡ true
     → key_true held (unlocked_in w n held) k ≡ key_true held (unlocked_in w (suc n) held) k) →

@@ -1,4 +1,4 @@
--- The lists of contents, and of leaving and arriving exits, in the words of places, sources and destinations.
+-- The lists of contents, and of leaving and arriving exits, in terms of places, sources and destinations.
 use Rattle.std.proofs.Common.{◌≡◌, ℕ, ◌+◌, ◌≤◌, Bool, true, false, List, [], ◌∷◌, Option, Some, None, refl, sym, ◌∙◌}
 use Rattle.std.proofs.Common.{ap, subst, arith}
 use Rattle.std.specs.Prelude.{nat_eq, IsTrue, ◌↔◌}
@@ -42,7 +42,7 @@ same_found : (f : Record → Option ℕ) (n : ℕ) (v : Option Record)
 same_found f n None = (λ e. absurd (true≢false (sym e)), λ e. let bad : None ≡ Some n = e in absurd (cc))
 same_found f n (Some r) = same_number n (f r)
 
--- where a record says a number, its object is in the list of that number
+-- an object is in the list of the number that its record gives
 listed-said : (f : Record → Option ℕ) (w : State) → IsSound w → (c n : ℕ)
     → IsTrue (list_any (nat_eq n) (passing (λ r. is_number c (f r)) w.objects))
     ↔ (option_and_then f (record_at w n) ≡ Some c)
@@ -63,7 +63,7 @@ end-said : (end : Passage → ℕ) (v : Option Record)
 end-said end None = refl
 end-said end (Some r) = refl
 
--- of the exits whose records say a number as one of their ends
+-- for exits whose records give a number as one of their ends
 ends_law : (end : Passage → ℕ) (w : State) → IsSound w → (c : ℕ)
     → ((n : ℕ)
     → IsTrue (list_any (nat_eq n) (passing (λ r. is_number c (option_map end (kind_passage r.kind))) w.objects))
@@ -98,7 +98,7 @@ source-room w sound x n at =
     room_of (Thing p) e well = absurd (let bad : None ≡ Some n = e in cc)
     room_of (Player p) e well = absurd (let bad : None ≡ Some n = e in cc)
 
--- no exit leaves what is no room
+-- no exit leaves an object that is not a room
 pub none-leave : (w : State) → IsSound w → (n : ℕ) → is_room w n ≡ false → leaving_of w n ≡ []
 none-leave w sound n out =
     empty (leaving_of w n)

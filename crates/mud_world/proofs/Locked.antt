@@ -1,4 +1,4 @@
--- How many levels of questions a key is read with.
+-- The number of levels with which a key is read.
 use Rattle.std.proofs.Common.{ℕ}
 use Rattle.mud_world.specs.declared.locks.Asked.{Asked}
 use Rattle.mud_world.specs.declared.locks.Asked.TheVariants.{Levels, Answers}

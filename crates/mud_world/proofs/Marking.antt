@@ -1,4 +1,4 @@
--- What was gathered is the holding, and its marks answer as it does.
+-- The gathered numbers are the holding, and their marks give the same results.
 use Rattle.std.proofs.Common.{◌≡◌, ℕ, ◌+◌, ◌<◌, ◌≤◌, ◌&&◌, ◌||◌, Bool, true, false, List, [], ◌∷◌, ◌++◌}
 use Rattle.std.proofs.Common.{length, set, get_or, Option, Some, None, refl, sym, ◌∙◌, ap, arith, ⊎_elim}
 use Rattle.std.specs.Prelude.{nat_eq, is_some, is_none, slice_get}
@@ -40,7 +40,7 @@ length-marked : (os : List ℕ) (ms : List Bool) → length (mark_all os ms) ≡
 length-marked [] ms = refl
 length-marked (p ∷ os) ms = length-marked os (set ms p true) ∙ length-set ms p true
 
--- the marks of a holding say what lies within, if each number that was given has a mark
+-- the marks of a holding say which objects are inside, if each given number has a mark
 pub marks-within : (w : State) → IsSound w → (c : ℕ) (held : List ℕ) → IsHolding w c held → (ms : List Bool)
     → length ms ≡ NUMBERS → ((o : ℕ) → o < NUMBERS → get_or ms o false ≡ false)
     → (o : ℕ) → get_or (mark_all held ms) o false ≡ within w o c
@@ -54,7 +54,7 @@ marks-within w sound c held is ms long none o =
     ∙ sym (ap (λ v. is_some v && comes_to w w.next o c) (missing-above w sound o (omega (arith, le, most)))))
     (cases_lt o NUMBERS)
 
--- ---- gathering, where each number is pushed once
+-- ---- gathering pushes each number once
 pub gathered-on : (w : State) → IsSound w → (c : ℕ) (keys keys' : List ℕ) (i at : ℕ) → Gathers w c keys i
     → slice_get keys i ≡ Some at → i < length keys
     → keys' ≡ keys ++ contents_of w at → Gathers w c keys' (i + 1)
@@ -63,7 +63,7 @@ gathered-on w sound c keys keys' i at was here lt is =
     (λ j low. ap (λ v. slice_get v j) is ∙ get-front keys (contents_of w at) j low)
     (λ o. ap (list_any (nat_eq o)) is ∙ list_any-append (nat_eq o) keys (contents_of w at))
 
--- ---- what has no key is unlocked
+-- ---- an object without a key is unlocked
 pub keyless-unlocked : (w : State) (c o : ℕ) → (has w o (λ r. is_none r.key) || unlocked w c o) ≡ unlocked w c o
 keyless-unlocked w c o =
     let test = λ (k : Tree ℕ). holds_for w (λ a. within w a c) k 3 in

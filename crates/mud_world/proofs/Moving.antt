@@ -1,4 +1,4 @@
--- A world stays sound when an object gets another place.
+-- A world stays sound when an object moves to another place.
 use Rattle.std.proofs.Common.{◌≡◌, ◌≢◌, ℕ, suc, ◌<◌, Bool, true, false, Some, None, refl, sym, ◌∙◌, ap, subst, ⊎_elim}
 use Rattle.std.specs.Prelude.{is_some, IsTrue}
 use Rattle.std.specs.Option.{option_map_or, option_and_then}
@@ -55,7 +55,7 @@ ends_before w sound a =
           ∙ ends_by-bound w w.next (place-below w sound) sound.no_circle p (place-below w sound a p e),
     ))
 
--- ---- object t, which has a place, gets the place y
+-- ---- object t, which has a place, moves to the place y
 module _ (w : State) (sound : IsSound w) (t y : ℕ) (r : Record) (at : record_at w t ≡ Some r) where
   abbrev r' : Record
   r' = record r { kind = kind_at y r.kind }
@@ -69,7 +69,7 @@ module _ (w : State) (sound : IsSound w) (t y : ℕ) (r : Record) (at : record_a
   there : (n : ℕ) → n ≢ t → record_at w' n ≡ record_at w n
   there n apart = lookup-set_value_other t n apart r' w.objects
 
-  -- what the move leaves as it was
+  -- the facts that the move does not change
   kept_has : (test : Record → Bool) → test r' ≡ test r → (n : ℕ) → has w' n test ≡ has w n test
   kept_has test same n =
       ⊎_elim
@@ -142,7 +142,7 @@ module _ (w : State) (sound : IsSound w) (t y : ℕ) (r : Record) (at : record_a
   same_place : (a : ℕ) → a ≢ t → place_of w' a ≡ place_of w a
   same_place a apart = ap (option_and_then (λ r. kind_place r.kind)) (there a apart)
 
-  -- the world stays sound where y is a fit place, and t is not on the way from y
+  -- the world stays sound if y is a valid place, and t is not on the way up from y
   pub sound-moved : (q : ℕ) → kind_place r.kind ≡ Some q → IsPlacedWell w (kind_at y r.kind)
       → ((k : ℕ) → follow w k y ≢ Some t) → IsSound w'
   sound-moved q placed well off = record {

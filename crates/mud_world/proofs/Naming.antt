@@ -15,7 +15,7 @@ use Rattle.mud_world.specs.Legal.{with_new}
 use Rattle.mud_world.proofs.Records.{record_cases, bool_cases, lookup-append_left, lookup-append_right}
 use Rattle.mud_world.proofs.Records.{lookup-set_value_same, lookup-set_value_other}
 
--- ---- sharing goes both ways
+-- ---- sharing is symmetric
 same_either : (a b : List ℕ) → str_eq_ignore_ascii_case a b ≡ str_eq_ignore_ascii_case b a
 same_either a b =
     let to = bytes_eq-Decides (str_to_ascii_lowercase a) (str_to_ascii_lowercase b) in
@@ -52,7 +52,7 @@ shares-flip xs ys none =
     ap (λ (f : List ℕ → List ℕ → Bool). list_any (λ b. list_any (f b) xs) ys) (λ i b a. same_either b a i)
     ∙ apart-swap str_eq_ignore_ascii_case xs ys none
 
--- ---- each player of the new world is one of the old with the same names
+-- ---- each player of the new world is one of the old world with the same names
 pub named-kept : (w w' : State) → AreNamedApart w
     → ((n : ℕ) (s : Record) → record_at w' n ≡ Some s → IsTrue (is_player_kind s.kind)
     → (r : Record) × (record_at w n ≡ Some r) × IsTrue (is_player_kind r.kind) × (r.names ≡ s.names))
@@ -63,7 +63,7 @@ named-kept w w' named old a b r s at at' apart is is' =
     ap (λ v. shares v s.names) (sym first.3) ∙ ap (shares first.0.names) (sym second.3)
     ∙ named a b first.0 second.0 first.1 second.1 apart first.2 second.2
 
--- who has none of the names taken by others shares none
+-- a player without any name that others have shares none
 not_taken : (n : ℕ) (names : List (List ℕ)) (es : List (ℕ × Record))
     → list_any (λ e. not (nat_eq n e.0) && (is_player_kind e.1.kind && shares names e.1.names)) es ≡ false
     → (m : ℕ) (s : Record) → lookup (nat_eq m) es ≡ Some s → m ≢ n → IsTrue (is_player_kind s.kind)
@@ -87,7 +87,7 @@ pub not-shared : (w : State) (n : ℕ) (names : List (List ℕ)) → is_taken w 
     → record_at w m ≡ Some s → m ≢ n → IsTrue (is_player_kind s.kind) → shares names s.names ≡ false
 not-shared w n names free = not_taken n names w.objects free
 
--- one object has another record, or is new; the others are as they were
+-- one object has another record, or is new; the others are unchanged
 pub named-anew : (w w' : State) (n : ℕ) (r : Record) → AreNamedApart w → record_at w' n ≡ Some r
     → ((m : ℕ) → m ≢ n → record_at w' m ≡ record_at w m)
     → (IsTrue (is_player_kind r.kind) → is_taken w n r.names ≡ false) → AreNamedApart w'
@@ -116,13 +116,13 @@ named-anew w w' n r named here there free a b s t at at' apart is is' =
         (subst (λ (v : Record). IsTrue (is_player_kind v.kind) → is_taken w n v.names ≡ false) same free is) m t at
         other is'
 
--- the new record stands at the next number
+-- the new record has the next number
 pub record-new : (w : State) (r : Record) → record_at w w.next ≡ None
     → record_at (with_new w (r ∷ [])) w.next ≡ Some r
 record-new w r gone = lookup-append_right w.next w.objects ((w.next, r) ∷ []) gone
     ∙ ap (λ b. cond b (Some r) None) (eq-eqb w.next w.next refl)
 
--- the old records stand where they stood
+-- the old records keep their numbers
 pub record-old : (w : State) (r : Record) (m : ℕ) → m ≢ w.next → record_at (with_new w (r ∷ [])) m ≡ record_at w m
 record-old w r m apart =
     record_cases (record_at w m)
@@ -141,7 +141,7 @@ named-set w n r r' named at free =
     named-anew w (with_record w n r') n r' named (lookup-set_value_same n r' r w.objects at)
     (λ m apart. lookup-set_value_other n m apart r' w.objects) free
 
--- the new record is no other player, and has the same names
+-- the new record adds no player, and has the same names
 pub named-same : (w : State) (n : ℕ) (r r' : Record) → AreNamedApart w → record_at w n ≡ Some r
     → is_player_kind r'.kind ≡ is_player_kind r.kind → r'.names ≡ r.names → AreNamedApart (with_record w n r')
 named-same w n r r' named at kind names =

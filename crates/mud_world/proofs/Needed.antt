@@ -1,4 +1,4 @@
--- What an object is needed for, by the lists.
+-- The uses of an object, by the lists.
 use Rattle.std.proofs.Common.{◌≡◌, ℕ, Bool, true, false, not, ◌||◌, List, [], ◌∷◌, length, refl, sym, ◌∙◌, ap, arith}
 use Rattle.std.proofs.lemmas.Bool.{ne_eqb}
 use Rattle.std.specs.Prelude.{◌==◌}
@@ -15,7 +15,7 @@ use Rattle.mud_world.proofs.Numbering.{passing, passing_by}
 has_one : (x : ℕ) (xs : List ℕ) → not (length (x ∷ xs) == 0) ≡ true
 has_one x xs = ap not (ne_eqb (length (x ∷ xs)) 0 (λ e. omega (arith, e)))
 
--- a list of numbers is empty where no record passes
+-- a list of numbers is empty if no record passes
 some-passing : (test : Record → Bool) (es : List (ℕ × Record))
     → list_any (λ e. test e.1) es ≡ not (length (passing test es) == 0)
 some-passing test [] = refl

@@ -15,7 +15,7 @@ key_cases : {P : Type 0} (v : Option (Tree ℕ)) → (v ≡ None → P) → ((k 
 key_cases None f g = f refl
 key_cases (Some k) f g = g k refl
 
--- what passes for all passes for each
+-- a test that all pass passes for each
 among-passes : (p : ℕ → Bool) (c : ℕ) (xs : List ℕ) → list_all p xs ≡ true → list_any (nat_eq c) xs ≡ true → p c ≡ true
 among-passes p c [] all any = absurd (true≢false (sym any))
 among-passes p c (x ∷ xs) all any =
@@ -25,7 +25,7 @@ among-passes p c (x ∷ xs) all any =
     (λ later. among-passes p c xs parts.1 later)
     (or_cases (nat_eq c x) (list_any (nat_eq c) xs) any)
 
--- where not all pass, one does not
+-- if not all pass, one fails
 some-fails : (p : ℕ → Bool) (xs : List ℕ) → list_all p xs ≡ false
     → (o : ℕ) × (list_any (nat_eq o) xs ≡ true) × (p o ≡ false)
 some-fails p [] none = absurd (true≢false none)
@@ -39,7 +39,7 @@ some-fails p (x ∷ xs) none =
 same_key : (w : State) (a : ℕ) (k l : Tree ℕ) → key_of w a ≡ Some k → key_of w a ≡ Some l → l ≡ k
 same_key w a k l at is = let same : Some l ≡ Some k = sym is ∙ at in cc
 
--- so many questions at most
+-- there are at most n questions
 pub questions-few : (w : State) (n a : ℕ) (k : Tree ℕ) → key_of w a ≡ Some k → nests w n k ≡ true → (m b : ℕ)
     → Questions w m a b → m ≤ n
 questions-few w n a k at nest zero b way = omega arith
@@ -59,7 +59,7 @@ questions-few w (suc n) a k at nest (suc (suc m)) b way =
     let rest = questions-few w n way.0 next.key next.is deep (suc m) b way.2 in
     omega (arith, rest)
 
--- one question too many
+-- there is one question too many
 pub questions-more : (w : State) (n a : ℕ) (k : Tree ℕ) → key_of w a ≡ Some k → nests w n k ≡ false
     → (b : ℕ) × Questions w (suc n) a b
 questions-more w zero a k at nest =
@@ -85,7 +85,7 @@ nesting_law = λ w a k at n. (
       absurd (omega (arith, le))),
 )
 
--- one way after the other
+-- two chains joined end to end
 pub questions-join : (w : State) (n l a b c : ℕ) → Questions w n a b → Questions w l b c
     → (t : ℕ) × (t ≡ n + l) × Questions w t a c
 questions-join w zero l a b c first second = (l, omega arith, subst (λ (v : ℕ). Questions w l v c) (sym first) second)
@@ -94,7 +94,7 @@ questions-join w (suc n) l a b c first second =
     let long = rest.1 in
     (suc rest.0, omega (arith, long), (first.0, first.1, rest.2))
 
--- round and round
+-- a cycle repeated
 questions-round : (w : State) (a m : ℕ) → Questions w (suc m) a a → (j : ℕ) → (l : ℕ) × (j ≤ l) × Questions w l a a
 questions-round w a m circle zero = (0, omega arith, refl)
 questions-round w a m circle (suc j) =

@@ -1,4 +1,4 @@
--- Who is found by a name, after each kind of edit.
+-- The objects found by a name, after each kind of edit.
 use Rattle.std.proofs.Common.{◌≡◌, ◌≢◌, ℕ, Bool, true, false, cond, ◌||◌, List, [], ◌∷◌, Option, Some, None, refl, sym}
 use Rattle.std.proofs.Common.{◌∙◌, ap, ⊎_elim}
 use Rattle.std.specs.Prelude.{bytes_eq}
@@ -36,7 +36,7 @@ owner_is : (n : ℕ) (o : Option ℕ) → is_number n o ≡ true → o ≡ Some 
 owner_is n None e = absurd (true≢false (sym e))
 owner_is n (Some m) e = let same = eqb-true n m e in ap Some (sym same)
 
--- ---- no edit of a name
+-- ---- edits that change no name
 
 pub names-same : (w w' : State) (o o' : Owners) → AreNames o w
     → ((n : ℕ) (t : List ℕ) → is_called w' n t ≡ is_called w n t) → HaveSameOwners o o' → AreNames o' w'
@@ -87,7 +87,7 @@ kind-placed y (Exit p) = refl
 kind-placed y (Thing p) = refl
 kind-placed y (Player p) = refl
 
--- ---- an object gets names in place of others
+-- ---- an object gets other names
 
 module _ (w w' : State) (n : ℕ) (olds news : List (List ℕ)) (o o' : Owners) (names : AreNames o w)
     (was : (t : List ℕ) → is_called w n t ≡ among t olds) (is : (t : List ℕ) → is_called w' n t ≡ among t news)
@@ -135,7 +135,7 @@ module _ (w w' : State) (n : ℕ) (olds news : List (List ℕ)) (o o' : Owners) 
       ∙ ap (λ v. option_map_or (λ r. among t (names_to_find r)) v false) (sym (there m apart)))
       (cases_eq m n)
 
--- a name of one that has no name of the others is none of theirs
+-- a name of an object that shares no name with the others differs from theirs
 not_both : (t : List ℕ) (xs ys : List (List ℕ)) → among t xs ≡ true → shares xs ys ≡ false → among t ys ≡ false
 not_both t [] ys e none = absurd (true≢false (sym e))
 not_both t (x ∷ xs) ys e none =
@@ -145,7 +145,7 @@ not_both t (x ∷ xs) ys e none =
     ((bytes_eq-Decides (str_to_ascii_lowercase t) (str_to_ascii_lowercase x)).0 here) ∙ parts.0)
     (λ past. not_both t xs ys (sym (ap (λ b. b || among t xs) past) ∙ e) parts.1)
 
--- what no other has can be given
+-- names that no other object has can be given
 module _ (w : State) (n : ℕ) (k : Kind) (names : List (List ℕ))
     (can : is_player_kind k ≡ true → is_taken w n names ≡ false) where
   pub free-called : (m : ℕ) (t : List ℕ) → m ≢ n → among t (called_by k names) ≡ true → is_called w m t ≡ false

@@ -1,4 +1,4 @@
--- Who is a player stays one.
+-- Players remain players.
 use Rattle.std.proofs.Common.{◌≡◌, ◌≢◌, ℕ, Bool, true, false, cond, ◌+◌, ◌&&◌, ◌||◌, List, [], ◌∷◌, Option, Some, None}
 use Rattle.std.proofs.Common.{refl, sym, ◌∙◌, ap, arith, ⊎_elim}
 use Rattle.std.specs.Prelude.{not, nat_eq, find, IfSome, IsTrue}
@@ -66,7 +66,7 @@ costing_kind cost (PlayerIn q) = refl
 kept-moved : (w : State) (n y p : ℕ) → is_player (with_place w n y) p ≡ is_player w p
 kept-moved w n y p = kept-changed w n (λ r. record r { kind = kind_at y r.kind }) (λ r. moved_kind y r.kind) p
 
--- what is recycled is no player
+-- a recycled object is not a player
 recycled-apart : (w : State) (a n : ℕ) → refusal w (record { actor = a; deed = Recycle n }) ≡ None
     → is_player w n ≡ false
 recycled-apart w a n legal =
@@ -115,7 +115,7 @@ pub new_players_are_players : NewPlayersArePlayers
 new_players_are_players w name sound =
     ap is_one (record-new w (new_record w.next (name ∷ []) (PlayerIn 0)) (next_missing w sound))
 
--- ---- who is found by a name
+-- ---- the player found by a name
 
 -- the record of a player that was found
 pub record IsFound (n : ℕ) (name : List ℕ) (es : List (ℕ × Record)) : Type 0 where
@@ -160,14 +160,14 @@ found-in name n low high (e ∷ es) rising is =
     rest : Option (ℕ × Record)
     rest = find (λ (x : ℕ × Record). is_player_kind x.1.kind && list_any (str_eq_ignore_ascii_case name) x.1.names) es
 
--- who is found by a name is a player
+-- the object found by a name is a player
 pub named-player : (w : State) → IsSound w → (name : List ℕ) (n : ℕ) → named_player w name ≡ Some n
     → is_player w n ≡ true
 named-player w sound name n is =
     let f = found-in name n 0 w.next w.objects sound.rising is in
     ap is_one f.at ∙ f.player
 
--- the same of an answer that may find nobody
+-- likewise for a result that may be None
 pub named-if : (w : State) → IsSound w → (name : List ℕ) (o : Option ℕ) → o ≡ named_player w name
     → IfSome o (λ n. IsTrue (is_player w n))
 named-if w sound name None e = tt

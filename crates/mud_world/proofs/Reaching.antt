@@ -1,4 +1,4 @@
--- The way from a thing up to what can be reached.
+-- The way up from a thing to what an actor reaches.
 use Rattle.std.proofs.Common.{◌≡◌, ◌≢◌, ℕ, zero, suc, ◌<◌, ◌≤◌, Bool, true, false, ◌&&◌, ◌||◌, ◌⊎◌, inl, inr, ⊎_elim}
 use Rattle.std.proofs.Common.{Option, Some, None, refl, sym, ◌∙◌, ap, subst, arith}
 use Rattle.std.specs.Prelude.{nat_eq, IsTrue, ◌↔◌}
@@ -42,7 +42,7 @@ arrives-on w m actor o p thing at apart away is =
     ∙ ap (λ b. b || (is_thing w p && arrives w m actor p)) away
     ∙ ap (λ b. b && arrives w m actor p) is
 
--- ---- the test is the relation
+-- ---- the test agrees with the relation
 is_number-true : (n : ℕ) (v : Option ℕ) → is_number n v ≡ true → v ≡ Some n
 is_number-true n None is = absurd (true≢false (sym is))
 is_number-true n (Some m) is = ap (λ x. Some x) (sym (eqb-true n m is))
@@ -50,7 +50,7 @@ is_number-true n (Some m) is = ap (λ x. Some x) (sym (eqb-true n m is))
 is_number-from : (n : ℕ) (v : Option ℕ) → v ≡ Some n → is_number n v ≡ true
 is_number-from n v is = ap (is_number n) is ∙ eq-eqb n n refl
 
--- it arrives at once
+-- it arrives in one step
 at_once : (w : State) (actor o p : ℕ) → place_of w o ≡ Some p
     → (nat_eq p actor || is_number p (place_of w actor)) ≡ true → InReach w actor o
 at_once w actor o p at near = record {
@@ -62,7 +62,7 @@ at_once w actor o p at near = record {
   things = λ k q lt is. absurd (omega arith);
 }
 
--- it arrives after one thing more
+-- it arrives after one more thing
 past_thing : (w : State) (actor o p : ℕ) → place_of w o ≡ Some p → IsTrue (is_thing w p) → InReach w actor p
     → InReach w actor o
 past_thing w actor o p at thing rest = record {

@@ -1,4 +1,4 @@
--- Records by number: look-ups after a change, and numbers that rise.
+-- Records by number: look-ups after a change, and sorted numbers.
 use Rattle.std.proofs.Common.{◌≡◌, ◌≢◌, ℕ, zero, suc, ◌+◌, ◌<◌, ◌≤◌, Bool, true, false, cond, ◌&&◌, List, [], ◌∷◌, ◌++◌}
 use Rattle.std.proofs.Common.{Option, Some, None, refl, sym, ◌∙◌, ap, subst, arith}
 use Rattle.std.specs.Prelude.{nat_eq}
@@ -95,7 +95,7 @@ IsRising-set_value low high n r (e ∷ es) rises =
     (λ past. subst (λ (b : Bool). IsRising low (cond b ((e.0, r) ∷ es) (e ∷ set_value (nat_eq n) es r)) high) (sym past)
     (rises.0, IsRising-set_value (e.0 + 1) high n r es rises.1))
 
--- ---- nesting depends on the keys only
+-- ---- nesting depends only on the keys
 pub list_all-agree : {X : Type 0} (f g : X → Bool) → ((x : X) → f x ≡ g x) → (xs : List X)
     → list_all f xs ≡ list_all g xs
 list_all-agree f g same [] = refl
@@ -120,7 +120,7 @@ pub option_map_or-agree_keys : (w w' : State) → ((o : ℕ) → key_of w' o ≡
     → option_map_or (nests w' n) v true ≡ option_map_or (nests w n) v true
 option_map_or-agree_keys w w' same n v = option_map_or-agree (nests w' n) (nests w n) (λ k. nests-same w w' same n k) v
 
--- what a test of the records finds, where the record of n keeps the answer
+-- a test of the records, if the record of n keeps its result
 pub list_all-set_value : (p : Record → Bool) (n : ℕ) (r old : Record) (es : List (ℕ × Record))
     → lookup (nat_eq n) es ≡ Some old → p r ≡ p old
     → list_all (λ e. p e.1) (set_value (nat_eq n) es r) ≡ list_all (λ e. p e.1) es
@@ -137,7 +137,7 @@ list_all-set_value p n r old (e ∷ es) at same =
     ∙ ap (λ b. p e.1 && b)
     (list_all-set_value p n r old es (sym (ap (λ b. cond b (Some e.1) (lookup (nat_eq n) es)) past) ∙ at) same))
 
--- ---- a record that stands after others that rise
+-- ---- a record after sorted ones
 behind-low : (low high k : ℕ) (v : Record) (es fs : List (ℕ × Record)) → IsRising low (es ++ (k, v) ∷ fs) high → low ≤ k
 behind-low low high k v [] fs rises = rises.0
 behind-low low high k v (e ∷ es) fs rises = let rest = behind-low (e.0 + 1) high k v es fs rises.1 in
@@ -151,7 +151,7 @@ behind-missing low high k v (e ∷ es) fs rises =
     ap (λ b. cond b (Some e.1) (lookup (nat_eq k) es)) (ne_eqb k e.0 (λ same. omega (arith, above, same)))
     ∙ behind-missing (e.0 + 1) high k v es fs rises.1
 
--- what was put after the others goes again
+-- the record that was appended is removed again
 pub remove-last : (n : ℕ) (r : Record) (es : List (ℕ × Record)) → lookup (nat_eq n) es ≡ None
     → remove_entry (nat_eq n) (es ++ (n, r) ∷ []) ≡ es
 remove-last n r [] gone = ap (λ b. cond b [] ((n, r) ∷ [])) (eq-eqb n n refl)

@@ -1,4 +1,4 @@
--- What a legal cost or recycling needs.
+-- The premises of a legal cost change or recycling.
 use Rattle.std.proofs.Common.{◌≡◌, ◌≢◌, ◌≤◌, ℕ, ◌+◌, ◌&&◌, Bool, true, false, cond, List, [], ◌∷◌, Some, None, refl}
 use Rattle.std.proofs.Common.{sym, ◌∙◌, ap, subst, arith}
 use Rattle.std.specs.Prelude.{nat_eq}

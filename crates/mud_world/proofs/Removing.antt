@@ -1,4 +1,4 @@
--- A world stays sound when an object that nothing needs is taken away.
+-- A world stays sound when an object without uses is removed.
 use Rattle.std.proofs.Common.{◌≡◌, ◌≢◌, ℕ, zero, suc, ◌+◌, ◌<◌, ◌≤◌, Bool, true, false, cond, List, [], ◌∷◌, Option}
 use Rattle.std.proofs.Common.{Some, None, refl, sym, ◌∙◌, ap, subst, arith, ⊎_elim, ◌⊎◌, inl, inr}
 use Rattle.std.specs.Prelude.{nat_eq, is_some}
@@ -20,7 +20,7 @@ use Rattle.mud_world.proofs.Naming.{named-kept}
 use Rattle.mud_world.proofs.Places.{option_cases, follow_by, no_circle-from_end}
 use Rattle.mud_world.proofs.Moving.{ends_before}
 
--- ---- keys: where some go and the others stay, nesting does not grow
+-- ---- keys: removing keys makes no key nest deeper
 list_all-implied : {X : Type 0} (f g : X → Bool) → ((x : X) → f x ≡ true → g x ≡ true) → (xs : List X)
     → list_all f xs ≡ true → list_all g xs ≡ true
 list_all-implied f g more [] all = refl
@@ -96,7 +96,7 @@ lookup-remove_other n q apart (e ∷ es) =
     ap (λ b. lookup (nat_eq q) (cond b es (e ∷ remove_entry (nat_eq n) es))) past
     ∙ ap (λ v. cond (nat_eq q e.0) (Some e.1) v) (lookup-remove_other n q apart es))
 
--- a number below all is not found
+-- a number below all others is not found
 pub lookup-below : (n low high : ℕ) (es : List (ℕ × Record)) → IsRising low es high → n < low
     → lookup (nat_eq n) es ≡ None
 lookup-below n low high [] rises lt = refl

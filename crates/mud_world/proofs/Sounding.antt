@@ -1,4 +1,4 @@
--- The world after a legal change of a sound world is sound, by kind of change.
+-- A legal change of a sound world leaves a sound world, by kind of change.
 use Rattle.std.proofs.Common.{◌≡◌, ℕ, ◌+◌, ◌≤◌, true, false, cond, List, [], ◌∷◌, length, Option, Some, None, sym, ◌∙◌}
 use Rattle.std.proofs.Common.{ap, subst, arith, ⊎_elim, append-nil}
 use Rattle.std.specs.Prelude.{nat_eq, unwrap_or}

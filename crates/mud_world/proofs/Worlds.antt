@@ -13,7 +13,7 @@ use Rattle.mud_world.specs.declared.refusal.Refusal.{Refusal}
 use Rattle.mud_world.proofs.Begun.{opening-sound}
 use Rattle.mud_world.proofs.Sounding.{soundness_law}
 
--- a legal change is made
+-- a legal change is applied
 pub stepped-legal : (w : State) (e : Change) → refusal w e ≡ None → step_or_same w e ≡ after w e
 stepped-legal w e legal = ap (λ o. if is_none o then after w e else w) legal
 

@@ -1,4 +1,4 @@
--- Written anew, the answers of no level are those of a level more.
+-- Rewriting the results of level zero gives those of the next level.
 use Rattle.std.proofs.Common.{◌≡◌, ℕ, ◌<◌, ◌≤◌, ◌||◌, Bool, true, false, List, [], ◌∷◌, length, set, get_or, Option}
 use Rattle.std.proofs.Common.{Some, None, refl, sym, ◌∙◌, ap, arith, ⊎_elim}
 use Rattle.std.specs.Prelude.{nat_eq, is_none}
@@ -20,7 +20,7 @@ length-written : (new : ℕ → Bool) (os : List ℕ) (answers : List Bool)
 length-written new [] answers = refl
 length-written new (p ∷ os) answers = length-written new os (set answers p (new p)) ∙ length-set answers p (new p)
 
--- what is written has its new answer, and so has what had it
+-- a rewritten result is new, and so is one that already had the new value
 written-at : (new : ℕ → Bool) (os : List ℕ) (answers : List Bool) (o : ℕ) → o < length answers
     → (list_any (nat_eq o) os ≡ false → get_or answers o false ≡ new o)
     → get_or (answers_with new os answers) o false ≡ new o
@@ -36,7 +36,7 @@ written-at new (p ∷ os) answers o lt had =
     get_or-set_other answers p o (new p) false (λ same. true≢false (sym (eq-eqb o p same) ∙ past))
     ∙ had (ap (λ b. b || list_any (nat_eq o) os) past ∙ none)))
 
--- an object without a key has one answer on all levels
+-- an object without a key has the same result at all levels
 by_key : (test : Tree ℕ → Bool) (k : Option (Tree ℕ)) → is_none k ≡ true → is_none k ≡ option_map_or test k true
 by_key test None is = refl
 by_key test (Some k) is = cc
@@ -46,7 +46,7 @@ by_record : (test : Tree ℕ → Bool) (v : Option Record) → is_none (option_a
 by_record test None is = refl
 by_record test (Some r) is = by_key test r.key is
 
--- who is not among the locked has no key
+-- an object that is not in the list of locked ones has no key
 pub keyless-key : (v : Option Record) → option_map_or (λ r. is_none r.key) v false ≡ true
     → is_none (option_and_then (λ r. r.key) v) ≡ true
 keyless-key None is = refl

@@ -1,4 +1,4 @@
--- The parts of changes: names, keys and texts.
+-- The parts of deeds: names, keys and texts.
 use Rattle.std.specs.Prelude.{IsTrue, IfSome}
 use Rattle.mud_key.specs.Name.{IsName}
 use Rattle.mud_key.specs.Names.{AreNames}
@@ -15,7 +15,7 @@ abbrev pub IsTarget : Target → Type 0
 IsTarget (New names) = AreNames names
 IsTarget (Old room) = Unit {0}
 
--- names, keys and texts of a deed are such; their types keep it of every change that is built
+-- the names, keys and texts of a deed are valid; the types ensure it for every deed
 abbrev pub HasParts : Deed → Type 0
 HasParts (Dig target doors) = IsTarget target × IfSome doors (λ d. AreNames d.out × IfSome d.back AreNames)
 HasParts (Make names) = AreNames names

@@ -1,4 +1,4 @@
--- The kinds of object, and what each has.
+-- The kinds of objects, and the data of each.
 use Rattle.std.specs.Prelude.{ℕ, nat_eq, ◌||◌, Bool, true, false, Option, Some, None}
 use Rattle.mud_world.specs.declared.record.Passage.{Passage}
 use Rattle.mud_world.specs.declared.record.Kind.{Kind}
@@ -46,7 +46,7 @@ abbrev pub kind_costing : ℕ → Kind → Kind
 kind_costing cost (Exit p) = Exit (record p { cost = cost })
 kind_costing cost other = other
 
--- what is of this kind lies in n, or has an end at n
+-- an object of this kind lies in n, or has n as an end
 abbrev pub kind_needs : ℕ → Kind → Bool
 kind_needs n Room = false
 kind_needs n (Exit p) = nat_eq n p.source || nat_eq n p.destination

@@ -1,4 +1,4 @@
--- The table of changes: what refuses each. What each leaves is the table of `Results`.
+-- The table of changes: the refusals of each. The table of `Results` has the effect of each.
 use Rattle.std.specs.Prelude.{ℕ, Bool, true, false, not, ◌&&◌, ◌||◌, nat_eq, nat_lt, [], ◌∷◌, length, find, ◌+◌}
 use Rattle.std.specs.Prelude.{Option, is_some}
 use Rattle.std.specs.Option.{option_map_or}
@@ -26,13 +26,13 @@ use Rattle.mud_key.specs.Tree.{objects_of, nots_of, atoms_of}
 use Rattle.mud_key.specs.declared.limits.TheConstants.{MOST_OBJECTS, MOST_NOTS}
 use Rattle.mud_world.specs.inner.Refusals.{refusals}
 
--- what refuses the actor of each kind of change but Player: he is no player of the world
+-- the refusal of an actor who is not a player of the world, for each kind of change except Player
 abbrev pub actor_fails : State → ℕ → Refusal → Bool
 actor_fails w actor NoSuch = not (exists w actor)
 actor_fails w actor WrongKind = not (is_player w actor)
 actor_fails w actor f = false
 
--- what else refuses a deed, kind by kind; all but KeyNesting is asked of the world before it
+-- the other refusals of a deed, kind by kind; all except KeyNesting are about the world before it
 abbrev pub deed_fails : State → ℕ → Deed → Refusal → Bool
 deed_fails w actor (Dig target doors) NoSuch = of_old target (λ room. not (exists w room))
 deed_fails w actor (Dig target doors) WrongKind = of_old target (λ room. not (is_room w room) || not (is_some doors))
@@ -79,15 +79,16 @@ deed_fails w actor (Say text) BadName = not (is_speech text)
 deed_fails w actor (Emote text) BadName = not (is_speech text)
 deed_fails w actor deed f = false
 
--- only of a new player is the actor no player yet
+-- true for the one deed whose actor is not a player yet
 abbrev pub is_arrival : Deed → Bool
 is_arrival (Player name) = true
 is_arrival deed = false
 
--- the refusal's condition holds of the change
+-- the refusal's condition holds for the change
 abbrev pub fails : State → Change → Refusal → Bool
 fails w e f = (not (is_arrival e.deed) && actor_fails w e.actor f) || deed_fails w e.actor e.deed f
 
--- the least whose condition holds, if one does. A reader need not look into this: `laws::refusals` says that it is
+-- the least refusal whose condition holds, if any. A reader need not look into this: the law `laws::refusals`
+-- characterizes it
 unfoldable pub refusal : State → Change → Option Refusal
 refusal w e = find (fails w e) refusals

@@ -1,9 +1,10 @@
--- What is true of a world in memory.
+-- The invariant of a world in memory.
 use Rattle.mud_world.specs.declared.world.World.TheInside.{Inside}
 use Rattle.mud_world.specs.Sound.{IsSound}
 use Rattle.mud_world.specs.inner.Maps.{state_of, lies_in, leaves, arrives, asks_it, AreOf, AreNames}
 
--- how a world stands in memory. A reader need not look into this: contracts speak of a world only by other definitions
+-- the layout of a world in memory. A reader need not look into this: contracts speak of a world only by other
+-- definitions
 pub record IsKept (a : Inside) : Type 0 where
   pub sound : IsSound (state_of a)
   pub contents : AreOf lies_in a.links.contents (state_of a)

@@ -27,13 +27,13 @@ number InUse = 16
 number WorldFull = 17
 number PartyBad = 18
 
--- the one of lower number, where there is one
+-- the refusal with the lower number, if there is one
 abbrev pub lesser : Option Refusal → Option Refusal → Option Refusal
 lesser None g = g
 lesser (Some f) None = Some f
 lesser (Some f) (Some g) = if nat_lt (number g) (number f) then Some g else Some f
 
--- the refusal, where its condition holds
+-- the refusal, if its condition holds
 abbrev pub refused_if : Bool → Refusal → Option Refusal
 refused_if true f = Some f
 refused_if false f = None

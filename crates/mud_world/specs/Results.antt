@@ -1,4 +1,4 @@
--- What each kind of change leaves.
+-- The result of each kind of change.
 use Rattle.std.specs.Prelude.{ℕ, ◌+◌, nat_eq, List, [], ◌∷◌, ◌++◌, length, Option, Some, None, unwrap_or}
 use Rattle.std.specs.List.{enumerate_from}
 use Rattle.std.specs.Option.{option_map_or}
@@ -18,18 +18,18 @@ use Rattle.mud_world.specs.State.{State, record_at, place_of, destination_of}
 
 -- ---- edits of a world
 
--- object n, where it exists, has its record changed by f
+-- f changes the record of object n, if it exists
 abbrev pub with_record_changed : State → ℕ → (Record → Record) → State
 with_record_changed w n f =
     option_map_or (λ r. record w { objects = set_value (nat_eq n) w.objects (f r) }) (record_at w n) w
 
--- new objects have come, with the next numbers
+-- the world with these new objects, under the next numbers
 abbrev pub with_new : State → List Record → State
 with_new w rs = record { objects = w.objects ++ enumerate_from w.next rs; next = w.next + length rs }
 
 -- ---- new objects
 
--- a new object is its maker's, and has no key
+-- a new object is owned by its maker, and has no key
 abbrev pub new_record : ℕ → List (List ℕ) → Kind → Record
 new_record actor names kind = record { names = names; owner = actor; kind = kind; key = None }
 
@@ -44,7 +44,7 @@ new_exits actor here there None = []
 new_exits actor here there (Some d) =
     new_exit actor d.out here there ∷ option_map_or (λ names. new_exit actor names there here ∷ []) d.back []
 
--- what is dug: the new room, if it is to be one, and the exits between the actor's room and the target
+-- the objects that a dig adds: the room if it is a new one, and the exits between the actor's room and the target
 abbrev pub dig_records : State → ℕ → Target → Option Doors → List Record
 dig_records w actor (New names) doors =
     new_record actor names Room ∷ new_exits actor (unwrap_or (place_of w actor) 0) w.next doors
@@ -52,7 +52,7 @@ dig_records w actor (Old room) doors = new_exits actor (unwrap_or (place_of w ac
 
 -- ---- the table of results
 
--- what the actor's deed leaves
+-- the world after the actor's deed
 abbrev pub deed_result : State → ℕ → Deed → State
 deed_result w actor (Dig target doors) = with_new w (dig_records w actor target doors)
 deed_result w actor (Make names) = with_new w (new_record actor names (Thing actor) ∷ [])

@@ -1,4 +1,4 @@
--- A world as contracts see it, and what can be asked of it.
+-- The model of a world, and the questions about it.
 use Rattle.std.specs.Prelude.{◌≡◌, find, ℕ, Bool, true, false, not, ◌&&◌, ◌||◌, nat_eq, List, map, filter, Option, Some}
 use Rattle.std.specs.Prelude.{is_some, is_none, IsTrue}
 use Rattle.std.proofs.Common.{zero, suc}
@@ -14,14 +14,14 @@ use Rattle.mud_world.specs.Truth.{key_true}
 pub use Rattle.mud_world.specs.Kinds.{is_room_kind, is_exit_kind, is_thing_kind, is_player_kind, kind_place}
 pub use Rattle.mud_world.specs.Kinds.{kind_passage}
 
--- the records by rising number, and the next number
+-- the records sorted by number, and the next number
 pub record State : Type 0 where
   pub objects : List (ℕ × Record)
   pub next : ℕ
 
 -- ---- one object
 
--- what is kept of object n
+-- the record of object n
 abbrev pub record_at : State → ℕ → Option Record
 record_at w n = lookup (nat_eq n) w.objects
 
@@ -51,7 +51,7 @@ is_player w n = has w n (λ r. is_player_kind r.kind)
 
 -- ---- places
 
--- where object n is
+-- the place of object n
 abbrev pub place_of : State → ℕ → Option ℕ
 place_of w n = option_and_then (λ r. kind_place r.kind) (record_at w n)
 
@@ -59,15 +59,16 @@ place_of w n = option_and_then (λ r. kind_place r.kind) (record_at w n)
 abbrev pub is_number : ℕ → Option ℕ → Bool
 is_number n o = option_map_or (nat_eq n) o false
 
--- the numbers of the records that pass the test, rising
+-- the numbers of the records that pass the test, sorted
 abbrev pub numbers_with : (Record → Bool) → State → List ℕ
 numbers_with test w = map (λ e. e.0) (filter (λ e. test e.1) w.objects)
 
--- the objects whose place is n. A reader need not look into this: `laws::contents` says what it is in sound worlds
+-- the objects whose place is n. A reader need not look into this: the law `laws::contents` characterizes it in sound
+-- worlds
 abbrev pub contents_of : State → ℕ → List ℕ
 contents_of w n = numbers_with (λ r. is_number n (kind_place r.kind)) w
 
--- where following places from o leads, k times
+-- the object reached from o by following places k times
 abbrev pub follow : State → ℕ → ℕ → Option ℕ
 follow w zero o = Some o
 follow w (suc k) o = option_and_then (follow w k) (place_of w o)
@@ -81,11 +82,12 @@ abbrev pub comes_to : State → ℕ → ℕ → ℕ → Bool
 comes_to w zero o c = false
 comes_to w (suc n) o c = nat_eq o c || option_map_or (λ p. comes_to w n p c) (place_of w o) false
 
--- `Within` as a test. A reader need not look into this: `laws::containment` says that they agree in sound worlds
+-- `Within` as a test. A reader need not look into this: the law `laws::containment` says that they agree in sound
+-- worlds
 abbrev pub within : State → ℕ → ℕ → Bool
 within w o c = exists w o && comes_to w w.next o c
 
--- the numbers of c, if it exists, and of all that it contains at any depth
+-- the numbers of c, if it exists, and of everything inside it at any depth
 abbrev pub IsHolding : State → ℕ → List ℕ → Type 0
 IsHolding w c held = (o : ℕ) → list_any (nat_eq o) held ≡ within w o c
 
@@ -103,11 +105,13 @@ source_of w n = option_map (λ p. p.source) (passage_of w n)
 abbrev pub destination_of : State → ℕ → Option ℕ
 destination_of w n = option_map (λ p. p.destination) (passage_of w n)
 
--- the exits whose source is n. A reader need not look into this: `laws::leaving` says what it is in sound worlds
+-- the exits whose source is n. A reader need not look into this: the law `laws::leaving` characterizes it in sound
+-- worlds
 abbrev pub leaving_of : State → ℕ → List ℕ
 leaving_of w n = numbers_with (λ r. is_number n (option_map (λ p. p.source) (kind_passage r.kind))) w
 
--- the exits whose destination is n. A reader need not look into this: `laws::arriving` says what it is in sound worlds
+-- the exits whose destination is n. A reader need not look into this: the law `laws::arriving` characterizes it in
+-- sound worlds
 abbrev pub arriving_of : State → ℕ → List ℕ
 arriving_of w n = numbers_with (λ r. is_number n (option_map (λ p. p.destination) (kind_passage r.kind))) w
 
@@ -126,11 +130,11 @@ unlocked_in w (suc n) held o = has w o (λ r. option_map_or (key_true held (unlo
 abbrev pub holds_for : State → (ℕ → Bool) → Tree ℕ → ℕ → Bool
 holds_for w held k n = key_true held (unlocked_in w n held) k
 
--- object o is unlocked for c. A reader need not look into this: `laws::levels` says what that is, without levels
+-- object o is unlocked for c. A reader need not look into this: the law `laws::levels` states it without levels
 abbrev pub unlocked : State → ℕ → ℕ → Bool
 unlocked w c o = has w o (λ r. option_map_or (λ k. holds_for w (λ a. within w a c) k MOST_NESTING) r.key true)
 
--- k nests at most n: it asks nothing, or n > 0 and each key of an object that it asks nests at most n - 1
+-- k nests at most n: it asks nothing, or n > 0 and each key of an object that it asks about nests at most n - 1
 abbrev pub nests : State → ℕ → Tree ℕ → Bool
 nests w zero k = list_all (λ o. false) (asks_of k)
 nests w (suc n) k = list_all (λ o. option_map_or (nests w n) (key_of w o) true) (asks_of k)
@@ -141,7 +145,7 @@ all_nest w = list_all (λ e. option_map_or (nests w MOST_NESTING) e.1.key true) 
 
 -- ---- names
 
--- a name of one is a name of the other, ASCII case ignored
+-- a name of one is a name of the other, ignoring ASCII case
 abbrev pub shares : List (List ℕ) → List (List ℕ) → Bool
 shares names others = list_any (λ a. list_any (str_eq_ignore_ascii_case a) others) names
 
@@ -149,7 +153,7 @@ shares names others = list_any (λ a. list_any (str_eq_ignore_ascii_case a) othe
 abbrev pub is_taken : State → ℕ → List (List ℕ) → Bool
 is_taken w n names = list_any (λ e. not (nat_eq n e.0) && (is_player_kind e.1.kind && shares names e.1.names)) w.objects
 
--- the player who has this name
+-- the player with this name
 abbrev pub named_player : State → List ℕ → Option ℕ
 named_player w name =
     option_map (λ e. e.0)

@@ -9,7 +9,7 @@ abbrev pub truth_of_join : Operator → Bool → Bool → Bool
 truth_of_join And a b = a && b
 truth_of_join Or a b = a || b
 
--- whether a key is true, where the objects that pass `held` are true, and `?x` for those that pass `unlocked`
+-- the truth of a key, if the objects that pass `held` are true, and `?x` is true for those that pass `unlocked`
 abbrev pub key_true : (ℕ → Bool) → (ℕ → Bool) → Tree ℕ → Bool
 key_true held unlocked (Has n) = held n
 key_true held unlocked (Asks n) = unlocked n

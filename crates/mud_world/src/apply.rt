@@ -1,4 +1,4 @@
-//! What a change does.
+//! Applies changes to a world.
 
 ghost use Rattle.std.specs.Prelude.{◌≡◌, None, OnOk, OnErr};
 ghost use Rattle.mud_world.specs.Sound.{IsSound};
@@ -13,7 +13,7 @@ use mud_key::{Key, Name, Names};
 use std::alloc::AllocError;
 
 impl World {
-    // Gives an object another place.
+    // Moves an object to another place.
     fn relocate(&mut self, object: u32, from: u32, to: u32) -> Result<(), AllocError>
         requires { CanGo self.old object from to }
         ensures ok { OnOk result (self.new ≡ with_place self.old object to) }
@@ -28,7 +28,7 @@ impl World {
         )
     }
 
-    // The actor goes to where the exit leads.
+    // Moves the actor to the exit's destination.
     #[tactic(auto, unfolding(crate::specs::Legal::refusal))]
     fn walk(&mut self, actor: u32, exit: u32) -> Result<(), AllocError>
         requires { refusal self.old (record { actor = actor; deed = Deed.Walk exit }) ≡ None }
@@ -49,7 +49,7 @@ impl World {
         }
     }
 
-    // The thing goes to another place.
+    // Moves the thing to another place.
     fn carry(&mut self, actor: u32, thing: u32, to: u32) -> Result<(), AllocError>
         requires { refusal self.old (record { actor = actor; deed = Deed.Move thing to }) ≡ None }
         ensures ok { OnOk result (self.new ≡ after self.old (record { actor = actor; deed = Deed.Move thing to })) }
@@ -63,7 +63,7 @@ impl World {
         }
     }
 
-    // A thing in the actor.
+    // Adds a thing inside the actor.
     fn make(&mut self, actor: u32, names: &Names) -> Result<(), AllocError>
         requires { refusal self.old (record { actor = actor; deed = Deed.Make names.now }) ≡ None }
         ensures ok { OnOk result (self.new ≡ after self.old (record { actor = actor; deed = Deed.Make names.now })) }
@@ -87,7 +87,7 @@ impl World {
         rekey(&mut self.records, &mut self.askers, object, key)
     }
 
-    // Takes the key of an object away.
+    // Removes the key of an object.
     fn drop_key(&mut self, object: u32)
         requires { CanKey self.old object None }
         ensures { self.new ≡ with_key self.old object None }
@@ -95,7 +95,7 @@ impl World {
         unkey(&mut self.records, &mut self.askers, object);
     }
 
-    // The object gets a copy of the key.
+    // Gives the object a copy of the key.
     #[tactic(auto, unfolding(crate::specs::Legal::refusal))]
     fn lock(&mut self, actor: u32, object: u32, key: &Key) -> Result<(), AllocError>
         requires { refusal self.old (record { actor = actor; deed = Deed.Lock object key.now }) ≡ None }
@@ -107,7 +107,7 @@ impl World {
         self.set_key(object, Some(key))
     }
 
-    // The object has no key from then on.
+    // Removes the object's key.
     fn unlock(&mut self, actor: u32, object: u32)
         requires { refusal self.old (record { actor = actor; deed = Deed.Unlock object }) ≡ None }
         ensures { self.new ≡ after self.old (record { actor = actor; deed = Deed.Unlock object }) }
@@ -117,7 +117,7 @@ impl World {
         self.drop_key(object);
     }
 
-    // The exit costs so much.
+    // Sets the cost of the exit.
     fn set_cost(&mut self, actor: u32, exit: u32, cost: u32)
         requires { refusal self.old (record { actor = actor; deed = Deed.Cost exit cost }) ≡ None }
         ensures { self.new ≡ after self.old (record { actor = actor; deed = Deed.Cost exit cost }) }
@@ -125,7 +125,7 @@ impl World {
         set_cost(&mut self.records, exit, cost);
     }
 
-    // A player in the hall, who owns himself.
+    // Adds a player to the hall. The player owns itself.
     fn add_player(&mut self, actor: u32, name: &Name) -> Result<(), AllocError>
         requires { refusal self.old (record { actor = actor; deed = Deed.Player name.now }) ≡ None }
         ensures ok { OnOk result (self.new ≡ after self.old (record { actor = actor; deed = Deed.Player name.now })) }
@@ -152,7 +152,7 @@ impl World {
         rename_in(&mut self.records, &mut self.owners, object, names)
     }
 
-    // The object gets a copy of the names.
+    // Gives the object a copy of the names.
     #[tactic(auto, unfolding(crate::specs::Legal::refusal))]
     fn rename(&mut self, actor: u32, object: u32, names: &Names) -> Result<(), AllocError>
         requires { refusal self.old (record { actor = actor; deed = Deed.Rename object names.now }) ≡ None }
@@ -164,7 +164,7 @@ impl World {
         self.set_names(object, names)
     }
 
-    // The object is gone.
+    // Removes the object.
     fn recycle(&mut self, actor: u32, object: u32)
         requires { refusal self.old (record { actor = actor; deed = Deed.Recycle object }) ≡ None }
         ensures { self.new ≡ after self.old (record { actor = actor; deed = Deed.Recycle object }) }
@@ -172,9 +172,9 @@ impl World {
         forget(&mut self.records, &mut self.links, &mut self.askers, object);
     }
 
-    /// Makes the world after a legal change (`after`). The only error is out of memory, and then the world is the one
-    /// that was. New objects get the next numbers, in the order room, exit, exit back; a number is never given again
-    /// (LambdaMOO Programmer's Manual, "Fundamental Operations on Objects").
+    /// Applies a legal change (`after`). The only error is out of memory, and it leaves the world unchanged. New
+    /// objects get the next numbers, in the order room, exit, exit back. A number is never given again (LambdaMOO
+    /// Programmer's Manual, "Fundamental Operations on Objects").
     pub fn apply(&mut self, change: &Change) -> Result<(), AllocError>
         requires { refusal self.old change.now ≡ None }
         ensures ok { OnOk result (self.new ≡ after self.old change.now) }

@@ -1,4 +1,4 @@
-//! The lists of askers: for each number the objects whose keys ask it.
+//! The lists of askers: for each number, the objects whose keys ask about that object.
 
 ghost use Rattle.std.specs.Prelude.{◌≡◌, ℕ, not, ◌&&◌, nat_eq, OnOk, OnErr};
 ghost use Rattle.std.specs.List.{list_any};
@@ -24,7 +24,7 @@ fn node_asks(node: &Node<u32>, object: u32) -> bool
     }
 }
 
-// Whether the key, if there is one, asks the object.
+// Returns whether the key, if there is one, asks about the object.
 fn asks(key: &Option<Key>, object: u32) -> bool
     ensures { result ≡ asked_by object key.now }
 {
@@ -34,7 +34,8 @@ fn asks(key: &Option<Key>, object: u32) -> bool
     }
 }
 
-// Puts an asker into the lists of all that its key asks. Where memory is refused some of them have it.
+// Inserts an asker into the lists of all objects that its key asks about. If an allocation fails, some of the lists
+// have it.
 fn begin(askers: &mut Lists, node: &Node<u32>, asker: u32) -> Result<(), AllocError>
     ensures ok { OnOk result (AreChanged (λ n. list_any (nat_eq n) (asks_of (tree_of node.now))) (put asker)
         askers.old askers.new) }
@@ -52,7 +53,7 @@ fn begin(askers: &mut Lists, node: &Node<u32>, asker: u32) -> Result<(), AllocEr
     }
 }
 
-// Takes an asker out of the lists of all that its key asks and the kept key doesn't.
+// Removes an asker from the lists of all objects that its key asks about and the kept key does not.
 fn end(askers: &mut Lists, node: &Node<u32>, asker: u32, kept: &Option<Key>)
     ensures { AreChanged (λ n. not (asked_by n kept.now) && list_any (nat_eq n) (asks_of (tree_of node.now)))
         (without asker) askers.old askers.new }
@@ -72,8 +73,8 @@ fn end(askers: &mut Lists, node: &Node<u32>, asker: u32, kept: &Option<Key>)
     }
 }
 
-// The lists with a key's asker, or the lists that were: what was put into them is taken out again,
-// but for what the old key asks.
+// Inserts an asker as `begin` does. An error leaves the lists as they were: insertions are undone, except where the old
+// key asks too.
 fn ask(
     askers: &mut Lists,
     asker: u32,
@@ -97,7 +98,7 @@ fn ask(
     }
 }
 
-// The lists without a key's asker, but for what the kept key asks.
+// Removes an asker from the lists, except where the kept key asks too.
 pub(crate) fn leave(askers: &mut Lists, asker: u32, old: &Option<Key>, kept: &Option<Key>)
     ensures { AreChanged (λ n. not (asked_by n kept.now) && asked_by n old.now) (without asker) askers.old askers.new }
 {
@@ -107,7 +108,7 @@ pub(crate) fn leave(askers: &mut Lists, asker: u32, old: &Option<Key>, kept: &Op
     }
 }
 
-// The asker has another key.
+// Replaces the key of the asker.
 pub(crate) fn exchange(
     askers: &mut Lists,
     asker: u32,

@@ -1,18 +1,18 @@
-//! The changes of a world.
+//! Changes of a world.
 
 use crate::speech::Speech;
 use mud_key::{Key, Name, Names};
 
-/// Where a dig leads.
+/// The target of a dig.
 #[derive(Drop)]
 pub enum Target {
-    /// A new room of these names.
+    /// A new room with these names.
     New(Names),
-    /// The room of this number.
+    /// The existing room with this number.
     Old(u32),
 }
 
-/// The names of an exit, and of the exit back, if there is to be one.
+/// The names of an exit, and of the exit back if there is to be one.
 #[derive(Drop)]
 pub struct Doors {
     /// The names of the exit from the actor's room to the target.
@@ -21,44 +21,42 @@ pub struct Doors {
     pub back: Option<Names>,
 }
 
-/// What an actor does: the twelve kinds of change (this project's profile, after the commands of
-/// LambdaCore). docs/WORLD.md has what refuses each and what each leaves, as a table.
+/// The deed of an actor: one of twelve kinds of change (this project's profile, after the commands of LambdaCore).
+/// docs/WORLD.md has a table with the refusals and the result of each.
 #[derive(Drop)]
 pub enum Deed {
-    /// A room, or a way to an old one: the target, and the names of the exits. A way to an old room
-    /// has an exit; a new room may be without.
+    /// Digs a new room, or an exit to an existing room: the target, and the names of the exits. A dig to an existing
+    /// room has an exit; a new room may have none.
     Dig(Target, Option<Doors>),
-    /// A thing of these names, in the actor.
+    /// Makes a thing with these names, carried by the actor.
     Make(Names),
-    /// The object gets this key, in place of the one that it has.
+    /// Gives the object this key, in place of any earlier key.
     Lock { object: u32, key: Key },
-    /// The object has no key from then on.
+    /// Removes the key of the object.
     Unlock { object: u32 },
-    /// The thing goes to a room, a player or a thing (LambdaMOO Programmer's Manual, "Object
-    /// Movement").
+    /// Moves the thing to a room, a player or a thing (LambdaMOO Programmer's Manual, "Object Movement").
     Move { thing: u32, to: u32 },
-    /// The actor goes to the destination of the exit, which leaves his room.
+    /// Moves the actor to the destination of the exit, which leaves the actor's room.
     Walk { exit: u32 },
-    /// The exit costs so much, 0 to 10,000.
+    /// Sets the cost of the exit, 0 to 10,000.
     Cost { exit: u32, cost: u32 },
-    /// A player of this name comes to the hall. The actor is the new player: the next number.
+    /// Adds a player with this name to the hall. The actor is the new player, with the next number.
     Player(Name),
-    /// The object gets these names.
+    /// Gives the object these names.
     Rename { object: u32, names: Names },
-    /// The object is gone (LambdaMOO Programmer's Manual, "Fundamental Operations on Objects":
-    /// `recycle`).
+    /// Removes the object (LambdaMOO Programmer's Manual, "Fundamental Operations on Objects": `recycle`).
     Recycle { object: u32 },
-    /// The actor says a text. The world stays.
+    /// The actor says a text. The world does not change.
     Say(Speech),
-    /// The actor does what a text tells. The world stays.
+    /// The actor emotes a text. The world does not change.
     Emote(Speech),
 }
 
-/// A change: who does it, and what he does.
+/// A change: an actor and a deed.
 #[derive(Drop)]
 pub struct Change {
-    /// The number of the player who does it.
+    /// The number of the acting player.
     pub actor: u32,
-    /// What he does.
+    /// The deed.
     pub deed: Deed,
 }

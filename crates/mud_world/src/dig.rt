@@ -1,4 +1,4 @@
-//! New objects, and the rooms and exits that are dug.
+//! Adds new objects, and digs rooms and exits.
 
 ghost use Rattle.std.specs.Prelude.{◌≡◌, ◌+◌, ◌<◌, ◌≤◌, [], ◌∷◌, None, OnOk, OnErr, length};
 ghost use Rattle.mud_world.specs.declared.limits.TheConstants.{NUMBERS};
@@ -30,7 +30,7 @@ impl World {
         Ok(())
     }
 
-    // A room, or nothing.
+    // Adds a room. An error adds nothing.
     fn add_room(&mut self, actor: u32, names: &Names) -> Result<(), AllocError>
         requires { self.old.next < NUMBERS }
         ensures ok { OnOk result (self.new ≡ with_new self.old (new_record actor names.now Kind.Room ∷ [])) }
@@ -45,7 +45,7 @@ impl World {
         self.add(room)
     }
 
-    // An exit, or nothing.
+    // Adds an exit. An error adds nothing.
     fn add_exit(
         &mut self,
         actor: u32,
@@ -71,7 +71,7 @@ impl World {
         self.add(exit)
     }
 
-    // Takes back what was added last.
+    // Removes the object that was added last.
     fn take_back(&mut self)
         requires { IsGrown self.old }
         ensures { (w : State) (r : Record) → self.old ≡ with_new w (r ∷ []) → self.new ≡ w }
@@ -81,7 +81,7 @@ impl World {
         self.next = last;
     }
 
-    // The exits of a dig, or nothing.
+    // Adds the exits of a dig. An error adds nothing.
     fn add_doors(
         &mut self,
         actor: u32,
@@ -114,7 +114,7 @@ impl World {
         }
     }
 
-    // A room, if it is a new one, then the exit there and the exit back, or nothing.
+    // Adds the room if it is a new one, then the exit to it and the exit back. An error adds nothing.
     #[tactic(auto, unfolding(crate::specs::Legal::refusal))]
     pub(crate) fn dig(
         &mut self,

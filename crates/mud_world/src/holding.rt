@@ -1,4 +1,4 @@
-//! What an object carries, as a set of numbers, and what is unlocked for it.
+//! The set of objects that a candidate carries, and the locks that it opens.
 
 ghost use Rattle.std.specs.Prelude.{◌≡◌, ℕ, List, IfOk, OnOk, IsTrue, ◌↔◌, nat_eq};
 ghost use Rattle.mud_world.specs.State.{IsHolding, unlocked, Within};
@@ -12,9 +12,9 @@ use indexmap::IndexSet;
 use std::alloc::AllocError;
 use std::marker::Model;
 
-/// The numbers of an object and of all that it contains at any depth: those that are true in a key
-/// that it meets. It is of the world that it was made from, and does not follow later changes. A
-/// contract sees the list of the numbers.
+/// The numbers of an object and of everything inside it at any depth. These are the objects that are true in a key that
+/// the object meets. The set is a snapshot of one world and does not follow later changes. A contract sees the list of
+/// the numbers.
 #[derive(Drop)]
 pub struct Holding {
     members: IndexSet<u32>,
@@ -29,7 +29,7 @@ impl Model for Holding {
 }
 
 impl Holding {
-    /// Whether the object is the one whose holding this is, or lies within it.
+    /// Returns whether the set contains the object.
     pub fn has(&self, object: u32) -> bool
         ensures { result ≡ list_any (nat_eq object) self.now }
     {
@@ -37,7 +37,7 @@ impl Holding {
     }
 }
 
-// Adds a number, where it isn't there yet.
+// Adds a number unless the set has it.
 fn add_number(members: &mut IndexSet<u32>, number: u32) -> Result<(), AllocError>
     ensures { OnOk result (members.new.keys ≡ insert_key nat_eq members.old.keys number) }
 {
@@ -47,7 +47,7 @@ fn add_number(members: &mut IndexSet<u32>, number: u32) -> Result<(), AllocError
     }
 }
 
-// Adds each number that isn't there yet.
+// Adds each number that the set does not have.
 fn add_numbers(members: &mut IndexSet<u32>, numbers: &[u32]) -> Result<(), AllocError>
     ensures { OnOk result (members.new.keys ≡ insert_all nat_eq members.old.keys numbers.now) }
 {
@@ -58,9 +58,9 @@ fn add_numbers(members: &mut IndexSet<u32>, numbers: &[u32]) -> Result<(), Alloc
 }
 
 impl World {
-    /// What an object carries at any depth, itself included; nothing, where it doesn't exist. It goes downwards through
-    /// contents, each object once (LambdaMOO Programmer's Manual, "Fundamental Object Attributes": contents). The only
-    /// error is out of memory.
+    /// Returns the object and everything inside it at any depth, or the empty set if it does not exist. It descends
+    /// through contents, and visits each object once (LambdaMOO Programmer's Manual, "Fundamental Object Attributes":
+    /// contents). The only error is out of memory.
     pub fn carried(&self, candidate: u32) -> Result<Holding, AllocError>
         ensures holding { IfOk result (IsHolding self.now candidate) }
         ensures members { IfOk result (λ held. (o : ℕ)
@@ -80,15 +80,15 @@ impl World {
                 }
             }
         }
-        // for the prover: `len` says that no number is in the set twice
+        // for the prover: `len` shows that no number is in the set twice
         let _known = members.len();
         Ok(Holding { members })
     }
 
-    /// Whether an object is unlocked for the one whose holding it is: it exists and has no key, or
-    /// its key is true. In a key an object is true where the holding has it, and `?x` where x is
-    /// unlocked in turn; a recycled object is false in both forms, and nobody passes by rank (this
-    /// project's profile, in the manner of LambdaCore's keys). It takes no memory.
+    /// Returns whether an object is unlocked for the holder: it exists, and has no key or one that is true. In a key an
+    /// object is true if the holding has it, and `?x` is true if x is unlocked in turn. A recycled object is false in
+    /// both forms, and nobody passes by rank (this project's profile, in the manner of LambdaCore's keys). It does not
+    /// allocate.
     pub fn unlocked(&self, holding: &Holding, object: u32) -> bool
         ensures { (c : ℕ) → IsHolding self.now c holding.now → result ≡ unlocked self.now c object }
     {

@@ -1,4 +1,4 @@
-//! What is unlocked for one who carries so much, for all objects at once.
+//! Computes for all objects at once whether they are unlocked for a holder.
 
 ghost use Rattle.std.specs.Prelude.{◌≡◌, ℕ, false, true, slice_index_or, slice_set, nat_eq, IfOk};
 ghost use Rattle.std.specs.Option.{option_map_or};
@@ -12,16 +12,16 @@ use crate::locks::{Asked, Bearer};
 use crate::world::World;
 use std::alloc::{AllocError, Global};
 
-// The answers of no level, and the objects whose answers may differ on higher ones.
+// The results at level zero, and the objects whose results may differ at higher levels.
 #[derive(Drop)]
 struct Plain {
-    // for each number whether its object has no key
+    // for each number, true if its object has no key
     answers: Vec<bool>,
-    // the numbers of those that have one, rising, and of what is recycled
+    // the numbers of the objects with a key, sorted; also numbers of recycled objects
     locked: Vec<u32>,
 }
 
-// Writes the answer of an object.
+// Sets the result for an object.
 fn put_answer(answers: &mut Vec<bool>, object: u32, answer: bool)
     ensures { answers.new.items ≡ slice_set answers.old.items object answer }
 {
@@ -33,7 +33,7 @@ fn put_answer(answers: &mut Vec<bool>, object: u32, answer: bool)
 impl World {
     ghost use Rattle.mud_world.specs.inner.Answers.{IsPlain};
 
-    // The answers of no level: what has no key is unlocked.
+    // Returns the results at level zero: an object is unlocked if it has no key.
     fn judge_plain(&self, alloc: Global) -> Result<Plain, AllocError>
         ensures { IfOk result (λ plain. IsPlain self.now plain.answers.items plain.locked.items) }
     {
@@ -50,7 +50,7 @@ impl World {
         Ok(Plain { answers, locked })
     }
 
-    // The answers of one level more: those of no level, but where a key is read.
+    // Returns the results at the next level: the keys are read with the results of this level.
     fn judge_more(
         &self,
         alloc: Global,
@@ -78,7 +78,7 @@ impl World {
         Ok(answers)
     }
 
-    // The answers of all four levels, each made from the one before.
+    // Returns the results after all four levels, each computed from the one before.
     fn judge_levels(&self, alloc: Global, holding: &Holding) -> Result<Vec<bool>, AllocError>
         ensures { IfOk result (λ answers. (o : ℕ) → slice_index_or answers.items o false
             ≡ unlocked_in self.now KEY_LEVELS (λ a. list_any (nat_eq a) holding.now) o) }
@@ -90,9 +90,9 @@ impl World {
         self.judge_more(alloc, holding, &plain, &third)
     }
 
-    /// For each number whether its object is unlocked for the one whose holding it is (`unlocked`); a number past the
-    /// last names nothing. Each key is read once for each level, so what a key asks costs a look in a table, however
-    /// the keys nest. The only error is out of memory.
+    /// Returns for each number whether its object is unlocked for the holder (`unlocked`). A number past the end of the
+    /// list names no object. Each key is read once for each level, and its questions are table look-ups, however the
+    /// keys nest. The only error is out of memory.
     pub fn judge(&self, alloc: Global, holding: &Holding) -> Result<Vec<bool>, AllocError>
         ensures { IfOk result (λ answers. (c o : ℕ) → IsHolding self.now c holding.now
             → slice_index_or answers.items o false ≡ unlocked self.now c o) }

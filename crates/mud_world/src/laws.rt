@@ -1,4 +1,4 @@
-//! Facts about definitions only: each contract is a law, and its function does nothing.
+//! Laws of the definitions. Each contract is a law, and its function does nothing.
 
 ghost use Rattle.mud_world.specs.Laws.{AreContents, AreLeaving, AreArriving, AreLevelsEnough, IsNesting, CirclesNestOn};
 ghost use Rattle.mud_world.specs.Laws.{IsLeastRefusal, IsContainment, IsReach};
@@ -11,77 +11,75 @@ ghost use Rattle.mud_world.specs.declared.limits.TheConstants.{KEY_LEVELS, MOST_
 ghost use Rattle.mud_world.specs.declared.refusal.Refusal.{Refusal};
 ghost use Rattle.mud_world.specs.State.{State};
 
-/// In a sound world an object is in the contents of another exactly where that is its place.
+/// In a sound world an object is in the contents of another exactly if its place is that other.
 pub fn contents()
     ensures { AreContents }
 {}
 
-/// In a sound world an exit leaves an object exactly where that is its source.
+/// In a sound world an exit is listed as leaving an object exactly if that object is its source.
 pub fn leaving()
     ensures { AreLeaving }
 {}
 
-/// In a sound world an exit leads to an object exactly where that is its destination.
+/// In a sound world an exit is listed as arriving at an object exactly if that object is its destination.
 pub fn arriving()
     ensures { AreArriving }
 {}
 
-/// In a sound world the test of containment finds exactly what lies within an object.
+/// In a sound world the test of containment agrees with the relation.
 pub fn containment()
     ensures { IsContainment }
 {}
 
-/// In a sound world the test of reach finds exactly what an actor can reach.
+/// In a sound world the test of reach agrees with the relation.
 pub fn reach()
     ensures { IsReach }
 {}
 
-/// In a sound world the levels of a key never run out: `?x` is true in a key exactly where x is
-/// unlocked.
+/// In a sound world the levels of a key never run out: `?x` is true in a key exactly if x is unlocked.
 pub fn levels()
     ensures { AreLevelsEnough }
 {}
 
-/// A key nests at most n exactly where no more than n questions, one after the other, lead on from
-/// its object.
+/// A key nests at most n exactly if every chain of questions from its object has at most n questions.
 pub fn nesting()
     ensures { IsNesting }
 {}
 
-/// A key in a circle of questions nests more than any number of levels.
+/// A key on a cycle of questions nests deeper than any number of levels.
 pub fn circles()
     ensures { CirclesNestOn }
 {}
 
-/// The refusal of a change is the one of least number whose condition holds, and there is none
-/// exactly where none holds.
+/// The refusal of a change is the one with the least number among those whose condition holds. There is no refusal
+/// exactly if no condition holds.
 pub fn refusals()
     ensures { (w : State) (e : Change)
         → ((f : Refusal) → (refusal w e ≡ Some f) ↔ IsLeastRefusal w e f)
         × ((refusal w e ≡ None) ↔ ((f : Refusal) → fails w e f ≡ false)) }
 {}
 
-/// The world after a legal change of a sound world is sound.
+/// A legal change of a sound world leaves a sound world.
 pub fn soundness()
     ensures { StaysSound }
 {}
 
-/// The world of any changes is sound: those that aren't legal where they stand change nothing.
+/// The world of any list of changes is sound. Changes that are illegal where they occur have no effect.
 pub fn worlds()
     ensures { WorldsAreSound }
 {}
 
-/// Who is a player stays one in each legal change.
+/// A player remains a player in each legal change.
 pub fn players_stay()
     ensures { PlayersStay }
 {}
 
-/// Who comes as a new player is one.
+/// The actor of a Player change is a player afterwards.
 pub fn new_players()
     ensures { NewPlayersArePlayers }
 {}
 
-/// The limits of a world and of its history.
+/// Promises the limits of a world and of its history.
 pub fn limits()
     ensures numbers { NUMBERS ≡ 8192 }
     ensures most_cost { MOST_COST ≡ 10000 }

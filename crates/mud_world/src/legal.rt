@@ -1,14 +1,13 @@
-//! What refuses a change.
+//! Decides whether a change is legal.
 
-ghost use Rattle.std.specs.Prelude.{MatchResult, not, ◌||◌, ◌≡◌, ℕ, ◌≤◌, [], ◌∷◌, Some, None, length, find};
+ghost use Rattle.std.specs.Prelude.{MatchResult, not, ◌≡◌, ℕ, ◌≤◌, [], ◌∷◌, Some, None, length, find};
 ghost use Rattle.mud_world.specs.State.{is_taken, State, exists};
 ghost use Rattle.mud_key.specs.Node.{key_of as tree_of};
 ghost use Rattle.mud_world.specs.Legal.{dig_records, actor_fails, deed_fails, refusal, fails};
-ghost use Rattle.mud_world.specs.inner.Fields.{in_use, is_full, is_bad_key};
+ghost use Rattle.mud_world.specs.inner.Fields.{is_full};
 ghost use Rattle.mud_key.specs.Tree.{atoms_of};
 ghost use Rattle.std.specs.List.{list_any};
 ghost use Rattle.mud_world.specs.Kinds.{kind_needs};
-ghost use Rattle.mud_world.specs.inner.Maps.{leaves, arrives};
 
 use crate::Refusal::{
     BadCost, BadKey, BadName, Denied, InUse, KeyNesting, LockedExit, LockedRoom, LockedThing,
@@ -20,7 +19,7 @@ use crate::{Change, Deed, Doors, Refusal, Target};
 use mud_key::limits::LAST_NUMBER;
 use mud_key::{Key, Name, Names, Node};
 
-// What can refuse a deed, by rising number.
+// The possible refusals of a deed, in rising order.
 #[tactic(auto, unfolding(crate::specs::Legal::refusal))]
 fn refusals_of(deed: &Deed) -> &'static [Refusal]
     ensures { (w : State) (actor : ℕ) → find (fails w (record { actor = actor; deed = deed.now })) result.now
@@ -48,7 +47,7 @@ fn refusals_of(deed: &Deed) -> &'static [Refusal]
 }
 
 impl World {
-    // Whether so many new objects would have a number above 8,191.
+    // Returns whether this many new objects would exceed the number 8,191.
     fn is_full(&self, count: u32) -> bool
         requires { count ≤ 3 }
         ensures { result ≡ is_full self.now count }
@@ -56,7 +55,7 @@ impl World {
         self.next + count > LAST_NUMBER + 1
     }
 
-    // How many objects are dug.
+    // Returns the number of objects that a dig adds.
     fn dug_count(target: &Target, doors: &Option<Doors>) -> u32
         ensures count { (w : State) (actor : ℕ) → result ≡ length (dig_records w actor target.now doors.now) }
         ensures few { result ≤ 3 }
@@ -75,7 +74,7 @@ impl World {
         room + exits
     }
 
-    // Whether this refuses the actor, who is to be a player of the world.
+    // Returns whether this refusal applies to the actor, who must be a player of the world.
     fn actor_fails(&self, actor: u32, fault: Refusal) -> bool
         ensures { result ≡ actor_fails self.now actor fault }
     {
@@ -86,7 +85,7 @@ impl World {
         }
     }
 
-    // Whether this refuses a walk through the exit.
+    // Returns whether this refusal applies to a walk through the exit.
     fn walk_fails(&self, actor: u32, exit: u32, fault: Refusal) -> bool
         ensures { result ≡ deed_fails self.now actor (Deed.Walk exit) fault }
     {
@@ -103,7 +102,7 @@ impl World {
         }
     }
 
-    // Whether this refuses a dig.
+    // Returns whether this refusal applies to a dig.
     fn dig_fails(&self, actor: u32, target: &Target, doors: &Option<Doors>, fault: Refusal) -> bool
         ensures { result ≡ deed_fails self.now actor (Deed.Dig target.now doors.now) fault }
     {
@@ -115,7 +114,7 @@ impl World {
         }
     }
 
-    // Whether this refuses a move of the thing.
+    // Returns whether this refusal applies to a move of the thing.
     fn move_fails(&self, actor: u32, thing: u32, to: u32, fault: Refusal) -> bool
         ensures { result ≡ deed_fails self.now actor (Deed.Move thing to) fault }
     {
@@ -132,7 +131,7 @@ impl World {
         }
     }
 
-    // Whether this refuses making it the key of the object.
+    // Returns whether this refusal applies to locking the object with the key.
     fn lock_fails(&self, actor: u32, object: u32, key: &Key, fault: Refusal) -> bool
         ensures { result ≡ deed_fails self.now actor (Deed.Lock object key.now) fault }
     {
@@ -140,13 +139,14 @@ impl World {
             NoSuch => !self.exists(object),
             WrongKind => self.is_player(object),
             Denied => !self.owns(actor, object),
-            BadKey => self.is_bad_key(key),
+            // the type of a key keeps it within the limits of keys
+            BadKey => self.misses_atom(key.node()),
             KeyNesting => !self.all_nest_with(object, key),
             _ => false,
         }
     }
 
-    // Whether this refuses taking the key of the object away.
+    // Returns whether this refusal applies to removing the object's key.
     fn unlock_fails(&self, actor: u32, object: u32, fault: Refusal) -> bool
         ensures { result ≡ deed_fails self.now actor (Deed.Unlock object) fault }
     {
@@ -158,7 +158,7 @@ impl World {
         }
     }
 
-    // Whether this refuses this cost of the exit.
+    // Returns whether this refusal applies to this cost of the exit.
     fn cost_fails(&self, actor: u32, exit: u32, cost: u32, fault: Refusal) -> bool
         ensures { result ≡ deed_fails self.now actor (Deed.Cost exit cost) fault }
     {
@@ -171,29 +171,16 @@ impl World {
         }
     }
 
-    // Whether an exit leaves it or leads to it.
-    fn has_ends(&self, number: u32) -> bool
-        ensures { result ≡ (list_any (λ e. leaves number e.1) self.now.objects
-            || list_any (λ e. arrives number e.1) self.now.objects) }
-    {
-        !self.leaving(number).is_empty() || !self.arriving(number).is_empty()
-    }
-
-    // Whether something lies in it, or has an end at it.
+    // Returns whether the object contains something, or is an end of an exit.
     fn is_needed(&self, number: u32) -> bool
         ensures { result ≡ list_any (λ e. kind_needs number e.1.kind) self.now.objects }
     {
-        !self.contents(number).is_empty() || self.has_ends(number)
+        !self.contents(number).is_empty()
+            || !self.leaving(number).is_empty()
+            || !self.arriving(number).is_empty()
     }
 
-    // Whether it is the hall, or something lies in it or has an end at it.
-    fn in_use(&self, object: u32) -> bool
-        ensures { result ≡ in_use self.now object }
-    {
-        object == 0 || self.is_needed(object)
-    }
-
-    // Whether a player other than this one has the name.
+    // Returns whether a player other than this one has the name.
     fn is_held(&self, number: u32, name: &str) -> bool
         ensures { result ≡ is_taken self.now number (name.now ∷ []) }
     {
@@ -203,7 +190,7 @@ impl World {
         }
     }
 
-    // Whether another player has one of the names.
+    // Returns whether another player has one of the names.
     fn is_taken(&self, number: u32, names: &Names) -> bool
         ensures { result ≡ is_taken self.now number names.now }
     {
@@ -215,7 +202,7 @@ impl World {
         false
     }
 
-    // Whether this refuses a new player.
+    // Returns whether this refusal applies to a new player.
     fn player_fails(&self, actor: u32, name: &Name, fault: Refusal) -> bool
         ensures { result ≡ deed_fails self.now actor (Deed.Player name.now) fault }
     {
@@ -227,7 +214,7 @@ impl World {
         }
     }
 
-    // Whether this refuses these names of the object.
+    // Returns whether this refusal applies to these names of the object.
     fn rename_fails(&self, actor: u32, object: u32, names: &Names, fault: Refusal) -> bool
         ensures { result ≡ deed_fails self.now actor (Deed.Rename object names.now) fault }
     {
@@ -239,7 +226,7 @@ impl World {
         }
     }
 
-    // Whether this refuses recycling the object.
+    // Returns whether this refusal applies to recycling the object.
     fn recycle_fails(&self, actor: u32, object: u32, fault: Refusal) -> bool
         ensures { result ≡ deed_fails self.now actor (Deed.Recycle object) fault }
     {
@@ -247,19 +234,12 @@ impl World {
             NoSuch => !self.exists(object),
             WrongKind => self.is_player(object),
             Denied => !self.owns(actor, object),
-            InUse => self.in_use(object),
+            InUse => object == 0 || self.is_needed(object),
             _ => false,
         }
     }
 
-    // Whether an object of the key is missing. By its type a key is within the limits of keys.
-    fn is_bad_key(&self, key: &Key) -> bool
-        ensures { result ≡ is_bad_key self.now key.now }
-    {
-        self.misses_atom(key.node())
-    }
-
-    // Whether an object of the key is missing.
+    // Returns whether the node names an object that does not exist.
     fn misses_atom(&self, node: &Node<u32>) -> bool
         ensures { result ≡ list_any (λ o. not (exists self.now o)) (atoms_of (tree_of node.now)) }
     {
@@ -270,7 +250,7 @@ impl World {
         }
     }
 
-    // Whether the condition of the refusal holds of the change.
+    // Returns whether the condition of the refusal holds for the change.
     fn fails(&self, change: &Change, fault: Refusal) -> bool
         ensures { result ≡ fails self.now change.now fault }
     {
@@ -288,40 +268,27 @@ impl World {
                 Deed::Rename { object, names } => self.rename_fails(actor, *object, names, fault),
                 Deed::Recycle { object } => self.recycle_fails(actor, *object, fault),
                 Deed::Say(speech) | Deed::Emote(speech) => {
-                    // for the prover: `as_str` says that a speech can be said, so that no refusal applies
+                    // for the prover: `as_str` shows that the speech is valid, so no refusal applies
                     let _known = speech.as_str();
                     false
                 }
             }
     }
 
-    // The first of these refusals whose condition holds.
-    fn first_of(&self, refusals: &[Refusal], change: &Change) -> Option<Refusal>
-        ensures { result ≡ find (fails self.now change.now) refusals.now }
-    {
-        refusals
-            .iter()
-            .copied()
-            .find(|fault| self.fails(change, *fault))
-    }
-
-    // The refusal of least number whose condition holds.
-    fn first_refusal(&self, change: &Change) -> Option<Refusal>
-        ensures { result ≡ refusal self.now change.now }
-    {
-        self.first_of(refusals_of(&change.deed), change)
-    }
-
-    /// The refusal of least number whose condition holds of the change, or none: the change is legal.
-    /// All conditions but KeyNesting are asked of the world before the change. docs/WORLD.md has them as a table
-    /// (this project's profile; RecursiveMove and Denied are the errors of that name of the
-    /// LambdaMOO Programmer's Manual, "Object Movement" and "Fundamental Object Attributes": owner). It
-    /// takes no memory.
+    /// Returns `Ok` for a legal change, and otherwise the refusal with the least number among those whose condition
+    /// holds. All conditions except KeyNesting are about the world before the change. docs/WORLD.md has them as a table
+    /// (this project's profile; RecursiveMove and Denied are the errors of that name of the LambdaMOO Programmer's
+    /// Manual, "Object Movement" and "Fundamental Object Attributes": owner). It does not allocate.
     pub fn legal(&self, change: &Change) -> Result<(), Refusal>
         ensures { MatchResult result (λ _. refusal self.now change.now ≡ None)
             (λ fault. refusal self.now change.now ≡ Some fault) }
     {
-        match self.first_refusal(change) {
+        let refusals = refusals_of(&change.deed);
+        match refusals
+            .iter()
+            .copied()
+            .find(|fault| self.fails(change, *fault))
+        {
             None => Ok(()),
             Some(fault) => Err(fault),
         }

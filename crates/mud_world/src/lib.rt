@@ -1,19 +1,18 @@
 //! The world: objects, their places, the keys that lock them, and the twelve kinds of change.
 //!
-//! A [`World`] is a list of objects by rising number. It begins as `World::opening`, and only
-//! `World::apply` changes it, by one legal [`Change`] after the other; so every world is sound
-//! (`IsSound` in specs/Sound.antt), and no call can make one that isn't. docs/WORLD.md has the
-//! rules in plain words.
+//! A [`World`] is a list of objects, sorted by number. It begins as `World::opening`, and only `World::apply` changes
+//! it, by one legal [`Change`] at a time. So every world is sound (`IsSound` in specs/Sound.antt), and no call can make
+//! an unsound one. docs/WORLD.md has the rules in plain words.
 //!
-//! | Calls | Answer |
+//! | Calls | Result |
 //! |---|---|
-//! | `get`, `exists`, `is_room` and so on, `place`, `passage`, `owns` | what is kept of an object |
-//! | `contents`, `player_named` | the objects in it, a player |
-//! | `leaving`, `arriving` | the exits that leave it, the exits that lead to it |
-//! | `holds`, `carried`, `in_reach` | what lies within what, and what an actor reaches |
-//! | `unlocked` | whether an object is unlocked for one whose holding is given |
-//! | `judge` | for all objects at once whether they are unlocked for him |
-//! | `legal` | the refusal of least number whose condition holds, or none |
+//! | `get`, `exists`, `is_room` and so on, `place`, `passage`, `owns` | the facts about one object |
+//! | `contents`, `player_named` | the objects inside it; the player with a name |
+//! | `leaving`, `arriving` | the exits that leave it; the exits that lead to it |
+//! | `holds`, `carried`, `in_reach` | containment; everything inside an object; what an actor reaches |
+//! | `unlocked` | whether an object is unlocked for a holder |
+//! | `judge` | the same for all objects at once |
+//! | `legal` | the refusal with the least number, or none |
 //! | `apply` | the world after a legal change |
 //! | `copy` | an equal world |
 //!
@@ -25,9 +24,9 @@
 //! }
 //! ```
 //!
-//! Proved is that each call answers by its definition, that `apply` makes the world after the
-//! change, or where memory is refused leaves the world that was, and that every world is sound.
-//! The laws of the definitions themselves are the contracts of [`laws`].
+//! Proved: each call returns the value of its definition; `apply` makes the world after the change, and leaves the
+//! world unchanged if an allocation fails; every world is sound. The contracts of [`laws`] are the laws of the
+//! definitions.
 #![tactic(auto)]
 
 mod apply;

@@ -1,4 +1,4 @@
-//! The lists that stand beside the records.
+//! Lists derived from the records.
 
 ghost use Rattle.std.specs.Prelude.{◌≡◌, IfOk, OnOk, OnErr};
 ghost use Rattle.mud_index.specs.Rising.{insert, without};
@@ -8,7 +8,7 @@ use crate::Kind;
 use mud_index::Lists;
 use std::alloc::{AllocError, Global};
 
-// For each number what lies in it, the exits that leave it, and the exits that lead to it.
+// For each number: the objects inside it, the exits that leave it, and the exits that lead to it.
 #[derive(Drop)]
 pub(crate) struct Links {
     pub(crate) contents: Lists,
@@ -27,7 +27,7 @@ impl Links {
         }
     }
 
-    // Puts a new object of this kind into the lists that it belongs to, or changes none.
+    // Inserts a new object of this kind into its lists. An error changes no list.
     pub(crate) fn link(&mut self, kind: Kind, number: u32) -> Result<(), AllocError>
         requires { IsInNone number self.old }
         ensures ok { OnOk result (AreLinked kind (insert number) self.old self.new) }
@@ -47,7 +47,7 @@ impl Links {
         }
     }
 
-    // Takes an object of this kind out of the lists that it belongs to.
+    // Removes an object of this kind from its lists.
     pub(crate) fn unlink(&mut self, kind: Kind, number: u32)
         ensures { AreLinked kind (without number) self.old self.new }
     {
@@ -61,7 +61,7 @@ impl Links {
         }
     }
 
-    // Equal lists, that change by themselves from then on.
+    // Returns an independent copy.
     pub(crate) fn copy(&self) -> Result<Links, AllocError>
         ensures { IfOk result (λ links. links ≡ self.now) }
     {

@@ -1,4 +1,4 @@
-//! Whether a key is true for the one who meets it, and whether an object is unlocked for him.
+//! Evaluates keys: whether a key is true for a bearer, and whether an object is unlocked.
 
 ghost use Rattle.std.specs.Prelude.{◌≡◌, true, false, is_none, slice_index_or};
 ghost use Rattle.std.specs.Option.{option_map_or};
@@ -11,27 +11,27 @@ use crate::holding::Holding;
 use crate::world::World;
 use mud_key::{Node, Operator};
 
-// Who meets a key.
+// The bearer of a key: the object that meets it.
 #[derive(Clone, Copy)]
 pub(crate) enum Bearer<'a> {
-    // The object of this number.
+    // The object with this number.
     Number(u32),
-    // The one whose holding this is.
+    // The holder of this set.
     Holder(&'a Holding),
-    // The one who holds what is marked: a mark for each number.
+    // The holder of the marked objects: a mark for each number.
     Marks(&'a [bool]),
 }
 
-// What answers the questions of a key.
+// The source of answers to the questions in a key.
 #[derive(Clone, Copy)]
 pub(crate) enum Asked<'a> {
-    // The keys of what is asked, with so many levels left.
+    // The keys of the objects in question, with this many levels left.
     Levels(u32),
-    // For each number whether its object is unlocked.
+    // For each number, whether its object is unlocked.
     Answers(&'a [bool]),
 }
 
-// The answer of a number; no past the last.
+// Returns the answer for a number, and false past the end.
 fn answer(answers: &[bool], number: u32) -> bool
     ensures { result ≡ slice_index_or answers.now number false }
 {
@@ -39,7 +39,7 @@ fn answer(answers: &[bool], number: u32) -> bool
 }
 
 impl World {
-    // Whether the object is the bearer, or lies within him.
+    // Returns whether the object is the bearer, or inside the bearer.
     fn has(&self, bearer: Bearer<'_>, object: u32) -> bool
         ensures { result ≡ has_for self.now bearer.entry object }
     {
@@ -50,7 +50,7 @@ impl World {
         }
     }
 
-    // Whether the key is true for the bearer.
+    // Returns whether the key is true for the bearer.
     #[cycle(locks)]
     fn is_true(&self, bearer: Bearer<'_>, asked: Asked<'_>, node: &Node<u32>) -> bool
         ensures { result ≡ key_true (has_for self.now bearer.entry)
@@ -72,14 +72,14 @@ impl World {
         }
     }
 
-    // Whether the object exists and has no key.
+    // Returns whether the object exists and has no key.
     pub(crate) fn is_keyless(&self, object: u32) -> bool
         ensures { result ≡ has self.now object (λ r. is_none r.key) }
     {
         matches!(self.get(object), Some(record) if record.key.is_none())
     }
 
-    // Whether the object exists, and has no key or one that is true for the bearer.
+    // Returns whether the object exists, and has no key or one that is true for the bearer.
     #[cycle(locks)]
     pub(crate) fn is_unlocked_by(&self, bearer: Bearer<'_>, asked: Asked<'_>, object: u32) -> bool
         ensures { result ≡ has self.now object (λ r. option_map_or (key_true (has_for self.now bearer.entry)
@@ -94,7 +94,7 @@ impl World {
         }
     }
 
-    // Whether the object is unlocked for the bearer, with so many levels of questions.
+    // Returns whether the object is unlocked for the bearer, with this many levels of questions.
     #[cycle(locks)]
     pub(crate) fn is_unlocked_in(&self, bearer: Bearer<'_>, object: u32, levels: u32) -> bool
         ensures { result ≡ unlocked_in self.now levels (has_for self.now bearer.entry) object }

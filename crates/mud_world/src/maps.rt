@@ -1,4 +1,4 @@
-//! The records by number, and the edits of what stands beside them.
+//! The records by number, and edits of the maps derived from them.
 
 ghost use Rattle.std.specs.Prelude.{◌≡◌, ℕ, ◌++◌, [], ◌∷◌, None, Some, IfOk, OnOk, OnErr, map, nat_eq, string_bytes};
 ghost use Rattle.std.specs.Prelude.{option_copied};
@@ -21,7 +21,8 @@ use mud_index::{Lists, Owners};
 use mud_key::{Key, Names};
 use std::alloc::{AllocError, Global};
 
-// The record of a number. As long as nothing was recycled, it stands at its number. Each look at an object comes here.
+// Returns the record of a number. Until something is recycled, its index equals its number. Every access to an object
+// goes through this function.
 #[inline(always)]
 pub(crate) fn record_of(records: &IndexMap<u32, Record>, number: u32) -> Option<&Record>
     ensures { option_copied result ≡ lookup (nat_eq number) records.now.entries }
@@ -85,14 +86,14 @@ fn set_key(records: &mut IndexMap<u32, Record>, object: u32, key: Option<Key>)
     }
 }
 
-// The names by which an object of this kind is found: only players are.
+// Returns the names by which an object of this kind is found: only players are found by name.
 fn names_to_find(kind: Kind, names: &Names) -> &[String]
     ensures { map string_bytes result.now ≡ called_by kind names.now }
 {
     if kind.is_player() { names.list() } else { &[] }
 }
 
-// Gives the names of a new object to it, or changes no owner.
+// Registers the names of a new object. An error changes no owner.
 fn enroll(
     records: &IndexMap<u32, Record>,
     owners: &mut Owners,
@@ -108,8 +109,8 @@ fn enroll(
     }
 }
 
-// Puts a new object into the lists that it belongs to, and a player under his names, or changes
-// none of them: where the names can't grow, the lists shrink again.
+// Inserts a new object into its lists, and a player's names into the owners. If the owners can't grow, the lists are
+// restored, and the error changes nothing.
 fn introduce(
     records: &IndexMap<u32, Record>,
     links: &mut Links,
@@ -132,8 +133,8 @@ fn introduce(
     done
 }
 
-// A new record at the end, in the lists that it belongs to, and a player under his names; or
-// nothing: where the lists or the names can't grow, the record goes again.
+// Appends a new record, inserts it into its lists, and registers a player's names. An error changes nothing: the record
+// is removed again.
 pub(crate) fn grow(
     records: &mut IndexMap<u32, Record>,
     links: &mut Links,
@@ -159,7 +160,7 @@ pub(crate) fn grow(
     done
 }
 
-// Takes an object away that isn't found by a name.
+// Removes an object that is not found by name.
 pub(crate) fn forget(
     records: &mut IndexMap<u32, Record>,
     links: &mut Links,
@@ -178,7 +179,7 @@ pub(crate) fn forget(
     }
 }
 
-// An object gets other names, and is found by them; where memory is refused, nothing changes.
+// Gives an object other names, and registers them. If an allocation fails, nothing changes.
 pub(crate) fn rename_in(
     records: &mut IndexMap<u32, Record>,
     owners: &mut Owners,
@@ -202,7 +203,7 @@ pub(crate) fn rename_in(
     Ok(())
 }
 
-// An object gets another key, or none, and its asking goes with it; where memory is refused, nothing changes.
+// Gives an object another key, or none, and updates the askers. If an allocation fails, nothing changes.
 pub(crate) fn rekey(
     records: &mut IndexMap<u32, Record>,
     askers: &mut Lists,
@@ -225,7 +226,7 @@ pub(crate) fn rekey(
     Ok(())
 }
 
-// An object loses its key, and asks nothing more.
+// Removes the key of an object and its entries among the askers.
 pub(crate) fn unkey(records: &mut IndexMap<u32, Record>, askers: &mut Lists, object: u32)
     ensures records { records.new.entries ≡ edit object (with_key None) records.old.entries }
     ensures askers { (r : Record) → lookup (nat_eq object) records.old.entries ≡ Some r
@@ -238,7 +239,7 @@ pub(crate) fn unkey(records: &mut IndexMap<u32, Record>, askers: &mut Lists, obj
     set_key(records, object, None);
 }
 
-// The three edits that give an object another place, the one that may fail first.
+// Moves an object to another place by three edits. The edit that may fail comes first.
 pub(crate) fn relocate_in(
     records: &mut IndexMap<u32, Record>,
     contents: &mut Lists,

@@ -1,4 +1,4 @@
-//! What an object holds, as a mark for each number. It takes no memory.
+//! The holding of an object as a mark for each number. It does not allocate.
 
 ghost use Rattle.std.specs.Prelude.{◌≡◌, true, false, IfSome, OnSome, ◌++◌, replicate, slice_set};
 ghost use Rattle.mud_world.specs.State.{IsHolding, unlocked};
@@ -18,7 +18,7 @@ fn put_mark(marks: &mut [bool], number: u32)
     }
 }
 
-// A mark for each of the numbers.
+// Returns a mark for each of the numbers.
 fn marks_of(numbers: &[u32]) -> [bool; NUMBERS]
     ensures { result ≡ mark_all numbers.now (replicate NUMBERS false) }
 {
@@ -29,7 +29,7 @@ fn marks_of(numbers: &[u32]) -> [bool; NUMBERS]
     marks
 }
 
-// Adds the numbers, or gives nothing where there is no room.
+// Appends the numbers, or returns `None` if there is no room.
 fn push_all(found: &mut ArrayVec<u32, NUMBERS>, numbers: &[u32]) -> Option<()>
     ensures { OnSome result (found.new.items ≡ found.old.items ++ numbers.now) }
 {
@@ -37,8 +37,8 @@ fn push_all(found: &mut ArrayVec<u32, NUMBERS>, numbers: &[u32]) -> Option<()>
 }
 
 impl World {
-    // The numbers of the object, if it exists, and of all that it contains at any depth. No world
-    // has more than there is room for here, so that there is always an answer; no proof needs it.
+    // Returns the numbers of the object, if it exists, and of everything inside it at any depth. The array has room for
+    // any world, so the result is never `None`; no proof needs that.
     fn gather(&self, candidate: u32) -> Option<ArrayVec<u32, NUMBERS>>
         ensures { IfSome result (λ found. IsHolding self.now candidate found.items) }
     {
@@ -60,7 +60,7 @@ impl World {
         None
     }
 
-    // Whether the object is unlocked for the candidate, once it is known what he holds.
+    // Returns whether the object is unlocked for the candidate, given the candidate's holding.
     fn is_unlocked_by_marks(&self, candidate: u32, numbers: &[u32], object: u32) -> bool
         requires { IsHolding self.now candidate numbers.now }
         ensures { result ≡ unlocked self.now candidate object }
@@ -71,8 +71,8 @@ impl World {
         self.is_unlocked_in(Bearer::Marks(&marks), object, KEY_LEVELS)
     }
 
-    // Whether an object that has a key is unlocked for the candidate. Apart, since its room on the stack is large, and
-    // each call would pay for that.
+    // Returns whether an object with a key is unlocked for the candidate. It is a separate function because its stack
+    // frame is large, and an inlined call would cost that everywhere.
     #[inline(never)]
     fn is_unlocked_for(&self, candidate: u32, object: u32) -> bool
         ensures { result ≡ unlocked self.now candidate object }
@@ -83,8 +83,8 @@ impl World {
         }
     }
 
-    // Whether the object is unlocked for the candidate. Few objects have a key: of the others it is
-    // not asked what he holds.
+    // Returns whether the object is unlocked for the candidate. Few objects have a key, and the holding is computed
+    // only for those.
     pub(crate) fn is_unlocked(&self, candidate: u32, object: u32) -> bool
         ensures { result ≡ unlocked self.now candidate object }
     {

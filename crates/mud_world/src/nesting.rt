@@ -1,4 +1,4 @@
-//! How deep the keys of the world nest.
+//! The nesting of keys.
 
 ghost use Rattle.std.specs.Prelude.{true, ◌≡◌};
 ghost use Rattle.mud_world.specs.State.{nests, all_nest, key_of};
@@ -11,7 +11,7 @@ use crate::world::World;
 use mud_key::{Key, Node};
 
 impl World {
-    // Whether so many questions, one after the other, lead to the object.
+    // Returns whether a chain of `count` questions leads to the object.
     fn climbs(&self, object: u32, count: u32) -> bool
         ensures { result ≡ climbs self.now count object }
     {
@@ -26,16 +26,15 @@ impl World {
         false
     }
 
-    // The objects whose keys ask the object, by rising number.
+    // Returns the objects whose keys ask about the object, sorted.
     fn askers_of(&self, object: u32) -> &[u32]
         ensures { result.now ≡ askers_of self.now object }
     {
         self.askers.get(object)
     }
 
-    // Whether each key nests at most 3, where this is the key of the object. Only the key itself is
-    // followed downwards, and from the object the questions that lead to it upwards; the other keys
-    // of the world are as they were.
+    // Returns whether each key nests at most 3, if this becomes the key of the object. Only the new key is followed
+    // downwards, and the questions that lead to the object upwards. The other keys of the world did not change.
     pub(crate) fn all_nest_with(&self, object: u32, key: &Key) -> bool
         ensures { result ≡ all_nest (with_lock self.now object key.now) }
     {
@@ -60,7 +59,7 @@ impl World {
         false
     }
 
-    // Whether a key nests at most so much, where `key` is the key of the object.
+    // Returns whether a key nests at most this deep, if `key` becomes the key of the object.
     #[cycle(nesting)]
     fn nests_with(&self, object: u32, key: &Key, node: &Node<u32>, levels: u32) -> bool
         ensures { result ≡ nests (with_lock self.now object key.now) levels (tree_of node.now) }
@@ -78,7 +77,7 @@ impl World {
         }
     }
 
-    // Whether the key of an object that is asked, if it has one, nests at most so much.
+    // Returns whether the key of the object in question, if it has one, nests at most this deep.
     #[cycle(nesting)]
     fn asked_nests_with(&self, object: u32, key: &Key, asked: u32, levels: u32) -> bool
         ensures { result ≡ option_map_or (nests (with_lock self.now object key.now) levels)

@@ -1,4 +1,4 @@
-//! Small questions about one or two objects.
+//! Simple queries about one or two objects.
 
 ghost use Rattle.std.specs.Prelude.{◌≡◌};
 ghost use Rattle.mud_world.specs.State.{exists, is_player, is_room, is_exit, is_thing, passage_of, is_number, place_of};
@@ -9,16 +9,15 @@ use crate::Passage;
 use crate::world::World;
 
 impl World {
-    /// Whether an object has this number. A number that was never given names nothing, nor does
-    /// that of a recycled object (LambdaMOO Programmer's Manual, "Fundamental Operations on
-    /// Objects": `valid`).
+    /// Returns whether an object has this number. A number that was never given names no object, and neither does the
+    /// number of a recycled object (LambdaMOO Programmer's Manual, "Fundamental Operations on Objects": `valid`).
     pub fn exists(&self, number: u32) -> bool
         ensures { result ≡ exists self.now number }
     {
         self.get(number).is_some()
     }
 
-    /// Whether the object exists and is a room.
+    /// Returns whether the object exists and is a room.
     pub fn is_room(&self, number: u32) -> bool
         ensures { result ≡ is_room self.now number }
     {
@@ -28,7 +27,7 @@ impl World {
         }
     }
 
-    /// Whether the object exists and is an exit.
+    /// Returns whether the object exists and is an exit.
     pub fn is_exit(&self, number: u32) -> bool
         ensures { result ≡ is_exit self.now number }
     {
@@ -38,7 +37,7 @@ impl World {
         }
     }
 
-    /// Whether the object exists and is a thing.
+    /// Returns whether the object exists and is a thing.
     pub fn is_thing(&self, number: u32) -> bool
         ensures { result ≡ is_thing self.now number }
     {
@@ -48,8 +47,8 @@ impl World {
         }
     }
 
-    /// Whether the object exists and is a player (LambdaMOO Programmer's Manual, "Fundamental
-    /// Operations on Objects": `is_player`).
+    /// Returns whether the object exists and is a player (LambdaMOO Programmer's Manual, "Fundamental Operations on
+    /// Objects": `is_player`).
     pub fn is_player(&self, number: u32) -> bool
         ensures { result ≡ is_player self.now number }
     {
@@ -59,7 +58,7 @@ impl World {
         }
     }
 
-    /// Where the object is: things and players have a place, rooms and exits have none (LambdaMOO
+    /// Returns the place of an object. Things and players have a place, rooms and exits have none (LambdaMOO
     /// Programmer's Manual, "Fundamental Object Attributes": location).
     pub fn place(&self, number: u32) -> Option<u32>
         ensures { result ≡ place_of self.now number }
@@ -67,7 +66,7 @@ impl World {
         self.get(number)?.kind.place()
     }
 
-    /// Whether the object's place is this one.
+    /// Returns whether the object's place is this one.
     pub fn is_in(&self, object: u32, place: u32) -> bool
         ensures { result ≡ is_number place (place_of self.now object) }
     {
@@ -77,14 +76,14 @@ impl World {
         }
     }
 
-    /// The ends and the cost of an exit; of other objects none.
+    /// Returns the ends and the cost of an exit, and `None` for any other object.
     pub fn passage(&self, number: u32) -> Option<Passage>
         ensures { result ≡ passage_of self.now number }
     {
         self.get(number)?.kind.passage()
     }
 
-    // Whether the exit leaves the room of the actor.
+    // Returns whether the exit leaves the actor's room.
     pub(crate) fn leaves_from(&self, actor: u32, exit: u32) -> bool
         ensures { result ≡ leaves_from self.now actor exit }
     {
@@ -94,8 +93,8 @@ impl World {
         }
     }
 
-    /// Whether the actor owns the object, or is #1, the only wizard (LambdaMOO Programmer's
-    /// Manual, "Fundamental Object Attributes": owner, wizard).
+    /// Returns whether the actor owns the object, or is #1, the only wizard (LambdaMOO Programmer's Manual,
+    /// "Fundamental Object Attributes": owner, wizard).
     pub fn owns(&self, actor: u32, object: u32) -> bool
         ensures { result ≡ owns self.now actor object }
     {

@@ -1,4 +1,4 @@
-//! Following places upwards: what lies within what, and what is in reach.
+//! Follows places upwards: containment, and reach.
 
 ghost use Rattle.std.specs.Prelude.{◌≡◌, IsTrue, ◌↔◌};
 ghost use Rattle.mud_world.specs.State.{Within, within, comes_to};
@@ -7,7 +7,7 @@ ghost use Rattle.mud_world.specs.Legal.{shares_room, in_reach, InReach, is_offer
 use crate::world::World;
 
 impl World {
-    // Whether following places, from an object on, gives another.
+    // Returns whether following places from one object gives the other.
     fn comes_to(&self, from: u32, to: u32) -> bool
         ensures { result ≡ comes_to self.now self.now.next from to }
     {
@@ -24,9 +24,8 @@ impl World {
         false
     }
 
-    /// Whether an object is the holder, or lies within it at any depth (LambdaMOO Programmer's
-    /// Manual, "Fundamental Object Attributes": contents). It takes a look-up for each place on
-    /// the way up.
+    /// Returns whether an object is the holder, or inside it at any depth (LambdaMOO Programmer's Manual, "Fundamental
+    /// Object Attributes": contents). It makes one look-up for each place on the way up.
     pub fn holds(&self, holder: u32, object: u32) -> bool
         ensures holds { result ≡ within self.now object holder }
         ensures follows { IsTrue result ↔ Within self.now object holder }
@@ -36,7 +35,7 @@ impl World {
         self.exists(object) && self.comes_to(object, holder)
     }
 
-    // Whether an object stands in the room of the actor.
+    // Returns whether an object is in the actor's room.
     fn shares_room(&self, actor: u32, object: u32) -> bool
         ensures { result ≡ shares_room self.now actor object }
     {
@@ -46,7 +45,7 @@ impl World {
         }
     }
 
-    // The test of reach, by following places upwards.
+    // Tests reach by following places upwards.
     fn arrives(&self, actor: u32, object: u32) -> bool
         ensures { result ≡ in_reach self.now actor object }
     {
@@ -66,8 +65,8 @@ impl World {
         false
     }
 
-    /// Whether following places from the object one arrives at the actor or at his room, passing only things. What
-    /// another player carries is out of reach.
+    /// Returns whether following places from the object, passing only things, arrives at the actor or at the actor's
+    /// room. A thing that another player carries is out of reach.
     pub fn in_reach(&self, actor: u32, object: u32) -> bool
         ensures reach { result ≡ in_reach self.now actor object }
         ensures reaches { IsTrue result ↔ InReach self.now actor object }
@@ -77,7 +76,7 @@ impl World {
         self.arrives(actor, object)
     }
 
-    // Whether the actor can put something into it.
+    // Returns whether the actor may put something into the object.
     pub(crate) fn is_offered(&self, actor: u32, to: u32) -> bool
         ensures { result ≡ is_offered self.now actor to }
     {

@@ -1,4 +1,4 @@
-//! What the world keeps of an object.
+//! The record of an object.
 
 ghost use Rattle.std.specs.Prelude.{◌≡◌};
 ghost use Rattle.mud_world.specs.Kinds.{kind_costing, kind_needs, kind_at, kind_place, kind_passage, is_room_kind};
@@ -6,33 +6,33 @@ ghost use Rattle.mud_world.specs.Kinds.{is_exit_kind, is_thing_kind, is_player_k
 
 use mud_key::{Key, Names};
 
-/// The two ends of an exit, and what a walk through it costs.
+/// The two ends of an exit, and the cost of walking through it.
 #[derive(Clone, Copy, Debug, PartialEq, Eq)]
 pub struct Passage {
     /// The room that the exit leaves.
     pub source: u32,
-    /// The room that it leads to.
+    /// The room that the exit leads to.
     pub destination: u32,
-    /// 0 to 10,000; 1 at first.
+    /// The cost, 0 to 10,000; 1 at first.
     pub cost: u32,
 }
 
-/// The kind of an object, with its place or its ends (this project's profile; place is the location
-/// of the LambdaMOO Programmer's Manual, "Fundamental Object Attributes").
+/// The kind of an object, with its place or its ends (this project's profile; place is the location of the LambdaMOO
+/// Programmer's Manual, "Fundamental Object Attributes").
 #[derive(Clone, Copy, Debug, PartialEq, Eq)]
 pub enum Kind {
-    /// Players and things are in rooms.
+    /// A room contains players and things.
     Room,
-    /// It leads from a room to a room.
+    /// An exit leads from a room to a room.
     Exit(Passage),
-    /// It lies in a room, a player or a thing.
+    /// A thing lies in a room, a player or a thing.
     Thing { place: u32 },
-    /// He stands in a room.
+    /// A player stands in a room.
     Player { place: u32 },
 }
 
 impl Kind {
-    /// The place of a thing or a player; rooms and exits have none.
+    /// Returns the place of a thing or a player; rooms and exits have none.
     pub fn place(self) -> Option<u32>
         ensures { result ≡ kind_place self }
     {
@@ -42,7 +42,7 @@ impl Kind {
         }
     }
 
-    /// The kind moved to this place. A room and an exit have no place, and stay as they are.
+    /// Returns the kind moved to this place. A room or an exit has no place, and is returned unchanged.
     pub fn at(self, place: u32) -> Kind
         ensures { result ≡ kind_at place self }
     {
@@ -54,7 +54,7 @@ impl Kind {
         }
     }
 
-    /// The kind with this cost, if it is an exit. Other kinds stay as they are.
+    /// Returns the kind with this cost if it is an exit, and unchanged otherwise.
     pub fn with_cost(self, cost: u32) -> Kind
         ensures { result ≡ kind_costing cost self }
     {
@@ -66,7 +66,7 @@ impl Kind {
         }
     }
 
-    /// Whether what is of this kind lies in the object, or has an end at it.
+    /// Returns whether an object of this kind lies in the object, or has it as an end.
     pub fn needs(self, number: u32) -> bool
         ensures { result ≡ kind_needs number self }
     {
@@ -77,7 +77,7 @@ impl Kind {
         }
     }
 
-    /// The ends and the cost of an exit; the other kinds have none.
+    /// Returns the ends and the cost of an exit; other kinds have none.
     pub fn passage(self) -> Option<Passage>
         ensures { result ≡ kind_passage self }
     {
@@ -87,28 +87,28 @@ impl Kind {
         }
     }
 
-    /// Whether it is a room.
+    /// Returns whether it is a room.
     pub fn is_room(self) -> bool
         ensures { result ≡ is_room_kind self }
     {
         matches!(self, Kind::Room)
     }
 
-    /// Whether it is an exit.
+    /// Returns whether it is an exit.
     pub fn is_exit(self) -> bool
         ensures { result ≡ is_exit_kind self }
     {
         matches!(self, Kind::Exit(_))
     }
 
-    /// Whether it is a thing.
+    /// Returns whether it is a thing.
     pub fn is_thing(self) -> bool
         ensures { result ≡ is_thing_kind self }
     {
         matches!(self, Kind::Thing { .. })
     }
 
-    /// Whether it is a player.
+    /// Returns whether it is a player.
     pub fn is_player(self) -> bool
         ensures { result ≡ is_player_kind self }
     {
@@ -116,16 +116,16 @@ impl Kind {
     }
 }
 
-/// What the world keeps of an object (LambdaMOO Programmer's Manual, "Fundamental Object
-/// Attributes"; the key is this project's profile).
+/// The record of an object (LambdaMOO Programmer's Manual, "Fundamental Object Attributes"; the key is this project's
+/// profile).
 #[derive(Drop)]
 pub struct Record {
-    /// 1 to 4 names, the first of which is shown.
+    /// 1 to 4 names; the first is shown.
     pub names: Names,
-    /// The number of the player who made it; a player owns himself.
+    /// The number of the player who made the object. A player owns itself.
     pub owner: u32,
-    /// Its kind, with its place or its ends.
+    /// The kind, with its place or its ends.
     pub kind: Kind,
-    /// The key that locks it; a player has none.
+    /// The key that locks the object; a player has none.
     pub key: Option<Key>,
 }

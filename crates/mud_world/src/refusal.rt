@@ -1,73 +1,73 @@
-//! Why a line or a change is refused.
+//! Refusals of lines and of changes.
 
 ghost use Rattle.std.specs.Prelude.{◌≡◌};
 ghost use Rattle.mud_world.specs.Refusals.{number, lesser, refused_if};
 
 use thiserror::Error;
 
-/// Why a line or a change is refused. Where several conditions hold, the refusal of least number is given (this
-/// project's profile; the names are those of the LambdaMOO error values where it has them). A change itself is never
-/// refused by `NotUnderstood`, `Ambiguous` or `PartyBad`: these are of lines only.
+/// The reason why a line or a change is refused. If several conditions hold, the refusal with the least number is given
+/// (this project's profile; the names are those of the LambdaMOO error values where it has them). `NotUnderstood`,
+/// `Ambiguous` and `PartyBad` refuse only lines, never changes.
 #[derive(Clone, Copy, Debug, PartialEq, Eq, Error)]
 pub enum Refusal {
-    /// The line is no command.
+    /// The line is not a command.
     #[error("not understood")]
     NotUnderstood,
-    /// An object is missing.
+    /// An object does not exist.
     #[error("no such object")]
     NoSuch,
     /// A text names several objects.
     #[error("ambiguous")]
     Ambiguous,
-    /// An object is of a kind that the change is not for.
+    /// An object has the wrong kind for the change.
     #[error("wrong kind of object")]
     WrongKind,
-    /// An object is out of reach, or is there already.
+    /// An object is out of reach, or is already there.
     #[error("not here")]
     NotHere,
-    /// The actor doesn't own the object, and is not #1.
+    /// The actor does not own the object, and is not #1.
     #[error("not the owner")]
     Denied,
-    /// A text is no names text, or can't be said.
+    /// A text is not a names text, or is not a valid speech.
     #[error("text not allowed")]
     BadName,
     /// Another player has the name.
     #[error("name taken")]
     NameTaken,
-    /// A text is no key, or an object of the key is missing.
+    /// A text is not a key, or the key names an object that does not exist.
     #[error("key not understood")]
     BadKey,
-    /// A key of the world would nest more than 3.
+    /// A key of the world would nest deeper than 3.
     #[error("key nests too deep")]
     KeyNesting,
     /// The cost is above 10,000.
     #[error("cost not allowed")]
     BadCost,
-    /// A thing would lie within itself.
+    /// A thing would be inside itself.
     #[error("recursive move")]
     RecursiveMove,
     /// The exit is locked for the actor.
     #[error("exit locked")]
     LockedExit,
-    /// The place is locked for who or what goes there.
+    /// The destination is locked for the player or thing that goes there.
     #[error("room locked")]
     LockedRoom,
-    /// The thing is locked for the place.
+    /// The thing is locked for the destination.
     #[error("thing locked")]
     LockedThing,
-    /// It is #0, or something lies in it, or an exit has an end at it.
+    /// The object is #0, contains something, or is an end of an exit.
     #[error("in use")]
     InUse,
-    /// A number would pass 8,191.
+    /// A number would exceed 8,191.
     #[error("world full")]
     WorldFull,
-    /// A meeting is not of 2 to 8 players, or has one twice.
+    /// A meeting does not have 2 to 8 players, or names one twice.
     #[error("party not allowed")]
     PartyBad,
 }
 
 impl Refusal {
-    /// The refusal's number, 1 to 18.
+    /// Returns the number of the refusal, 1 to 18.
     pub fn number(self) -> u32
         ensures { result ≡ number self }
     {
@@ -94,7 +94,7 @@ impl Refusal {
     }
 }
 
-/// The refusal of lower number, where there is one: of two conditions that hold, the one that counts.
+/// Returns the refusal with the lower number, if there is one: the one that counts if both conditions hold.
 pub fn lesser(first: Option<Refusal>, second: Option<Refusal>) -> Option<Refusal>
     ensures { result ≡ lesser first second }
 {
@@ -111,7 +111,7 @@ pub fn lesser(first: Option<Refusal>, second: Option<Refusal>) -> Option<Refusal
     }
 }
 
-/// The refusal, where its condition holds.
+/// Returns the refusal if its condition holds.
 pub fn refused_if(holds: bool, refusal: Refusal) -> Option<Refusal>
     ensures { result ≡ refused_if holds refusal }
 {

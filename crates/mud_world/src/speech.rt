@@ -1,4 +1,4 @@
-//! What players say.
+//! Texts that players say.
 
 ghost use Rattle.std.specs.Prelude.{◌≡◌, ℕ, IfOk, IsTrue, option_copied, MatchOption, true};
 ghost use Rattle.mud_world.specs.Speech.{is_trimmed, is_speech};
@@ -11,7 +11,7 @@ use mud_key::codes::{SPACE, TILDE};
 use std::alloc::{AllocError, Global};
 use std::marker::Model;
 
-/// What a player says or emotes: 1 to 900 bytes from 32 to 126 without a space at an end. A contract sees its bytes.
+/// A text to say or to emote: 1 to 900 bytes from 32 to 126, without a space at either end. A contract sees its bytes.
 #[derive(Drop)]
 pub struct Speech {
     text: String,
@@ -29,7 +29,7 @@ impl Model for Speech {
 }
 
 impl Speech {
-    /// The text as what is said, where it can be said.
+    /// Reads a text as a speech, and returns `None` if it is not one.
     pub fn read(alloc: Global, text: &str) -> Result<Option<Speech>, AllocError>
         ensures { IfOk result (λ found. MatchOption found (is_speech text.now ≡ false)
             (λ speech. (speech ≡ text.now) × (is_speech text.now ≡ true))) }
@@ -43,7 +43,7 @@ impl Speech {
         }
     }
 
-    /// The text.
+    /// Returns the text.
     pub fn as_str(&self) -> &str
         ensures text { result.now ≡ self.now }
         ensures speech { IsTrue (is_speech self.now) }
@@ -51,11 +51,11 @@ impl Speech {
         &self.text
     }
 
-    /// An equal speech, in memory of its own.
+    /// Returns an equal speech.
     pub fn copy(&self, alloc: Global) -> Result<Speech, AllocError>
         ensures { IfOk result (λ speech. speech ≡ self.now) }
     {
-        // for the prover: reading the field says that the text can be said
+        // for the prover: reading the field shows that the speech is valid
         let _known = &self.text;
         Ok(Speech {
             text: self.text.clone()?,
@@ -84,7 +84,7 @@ fn is_trimmed(text: &[u8]) -> bool
     !is_space(text.first()) && !is_space(text.last())
 }
 
-// Whether a text can be said.
+// Returns whether a text is a valid speech.
 pub(crate) fn is_speech(text: &str) -> bool
     ensures { result ≡ is_speech text.now }
 {

@@ -1,4 +1,4 @@
-//! The world: its objects by rising number, and the number that the next will get.
+//! The world: its objects, sorted by number, and the next number.
 
 ghost use Rattle.std.specs.Prelude.{codes, ◌≡◌, [], ◌∷◌, IfOk, IfSome, IsTrue, option_copied};
 ghost use Rattle.mud_world.specs.State.{named_player, is_player, State, record_at};
@@ -14,7 +14,7 @@ use mud_key::{Names, NamesFault};
 use std::alloc::{AllocError, Global};
 use std::marker::Model;
 
-// The names of #0.
+// Returns the names of #0.
 fn hall_names(alloc: Global) -> Result<Names, AllocError>
     ensures { IfOk result (λ names. names ≡ codes "The Hall" ∷ []) }
 {
@@ -25,7 +25,7 @@ fn hall_names(alloc: Global) -> Result<Names, AllocError>
     }
 }
 
-// The names of #1.
+// Returns the names of #1.
 fn wizard_names(alloc: Global) -> Result<Names, AllocError>
     ensures { IfOk result (λ names. names ≡ codes "Wizard" ∷ []) }
 {
@@ -36,12 +36,14 @@ fn wizard_names(alloc: Global) -> Result<Names, AllocError>
     }
 }
 
-/// A world of at most 8,192 objects, numbered from 0 on by rising number (LambdaMOO Programmer's
-/// Manual, "Objects"; the limit is this project's profile). A contract sees the records by number,
-/// and the next number. Every world is sound (`IsSound`): following places never comes back to its
-/// start, places and the ends of exits are of the kinds that they must be, costs are at most
-/// 10,000, no two players share a name, players have no key, and each key is within the limits of
-/// keys and nests at most 3.
+/// A world of at most 8,192 objects, sorted by number from 0 on (LambdaMOO Programmer's Manual, "Objects"; the limit is
+/// this project's profile). A contract sees the records by number, and the next number. Every world is sound
+/// (`IsSound`):
+///
+/// - Following places never returns to its start.
+/// - Places and ends of exits have the right kinds, and costs are at most 10,000.
+/// - No two players share a name.
+/// - Players have no key. Each key is within the limits of keys and nests at most 3.
 pub struct World {
     pub(crate) alloc: Global,
     pub(crate) records: IndexMap<u32, Record>,
@@ -51,7 +53,7 @@ pub struct World {
     pub(crate) next: u32,
 }
 
-// Written out: where a world goes, a proof then has one step, and not one for each map.
+// Written out, so that a proof about dropping a world has one step instead of one for each map.
 impl Drop for World {
     fn drop(self) {
         let World {
@@ -89,7 +91,7 @@ impl Model for World {
 impl World {
     ghost use Rattle.mud_world.specs.Opening.{opening_state};
 
-    /// The world at the beginning: #0, the room `The Hall`, and in it #1, the player `Wizard`, who owns both. The only
+    /// Returns the initial world: #0, the room `The Hall`, and in it #1, the player `Wizard`, who owns both. The only
     /// error is out of memory.
     pub fn opening(alloc: Global) -> Result<World, AllocError>
         ensures opening { IfOk result (λ w. w ≡ opening_state) }
@@ -122,16 +124,15 @@ impl World {
         })
     }
 
-    /// What is kept of an object; nothing of a number that no object has. The number of a recycled
-    /// object is never given again (LambdaMOO Programmer's Manual, "Fundamental Operations on
-    /// Objects": `recycle`).
+    /// Returns the record of an object, or `None` if no object has the number. The number of a recycled object is never
+    /// given again (LambdaMOO Programmer's Manual, "Fundamental Operations on Objects": `recycle`).
     pub fn get(&self, number: u32) -> Option<&Record>
         ensures { option_copied result ≡ record_at self.now number }
     {
         record_of(&self.records, number)
     }
 
-    /// The number that the next new object gets, 2 to 8,192; at 8,192 the world is full.
+    /// Returns the number of the next new object, 2 to 8,192. At 8,192 the world is full.
     pub fn next_number(&self) -> u32
         ensures next { result ≡ self.now.next }
         ensures sound { IsSound self.now }
@@ -139,27 +140,27 @@ impl World {
         self.next
     }
 
-    /// Tells the prover that the world is sound, where no other call in a body does. It does nothing when it runs.
+    /// Tells the prover that the world is sound, in bodies where no other call does. It does nothing at run time.
     pub(crate) fn know_sound(&self)
         ensures { IsSound self.now }
     {
-        // for the prover: a field that is read makes the type's invariant known
+        // for the prover: reading a field makes the type's invariant known
         let _known = &self.records;
     }
 
-    /// The objects whose place it is, by rising number (LambdaMOO Programmer's Manual, "Fundamental
-    /// Object Attributes": contents; the order is this project's profile).
+    /// Returns the objects whose place is this one, sorted (LambdaMOO Programmer's Manual, "Fundamental Object
+    /// Attributes": contents; the order is this project's profile).
     pub fn contents(&self, number: u32) -> &[u32]
         ensures { result.now ≡ contents_of self.now number }
     {
         self.links.contents.get(number)
     }
 
-    /// The exits whose source it is, by rising number.
+    /// Returns the exits whose source is this room, sorted.
     pub fn leaving(&self, number: u32) -> &[u32]
         ensures { result.now ≡ leaving_of self.now number }
     {
-        // most numbers are no room's, and a record is sooner there than a list
+        // most numbers are not rooms, and a record is found faster than a list
         if self.is_room(number) {
             self.links.leaving.get(number)
         } else {
@@ -169,14 +170,14 @@ impl World {
         }
     }
 
-    /// The exits whose destination is it, by rising number.
+    /// Returns the exits whose destination is this room, sorted.
     pub fn arriving(&self, number: u32) -> &[u32]
         ensures { result.now ≡ arriving_of self.now number }
     {
         self.links.arriving.get(number)
     }
 
-    /// The player who has this name, ASCII case ignored. There is at most one.
+    /// Returns the player with this name, ignoring ASCII case. There is at most one.
     pub fn player_named(&self, name: &str) -> Option<u32>
         ensures named { result ≡ named_player self.now name.now }
         ensures player { IfSome result (λ n. IsTrue (is_player self.now n)) }
@@ -192,7 +193,7 @@ impl World {
         self.owners.get(name)
     }
 
-    /// An equal world, that changes by itself from then on. The only error is out of memory.
+    /// Returns an independent copy. The only error is out of memory.
     pub fn copy(&self) -> Result<World, AllocError>
         ensures { IfOk result (λ w. w ≡ self.now) }
     {

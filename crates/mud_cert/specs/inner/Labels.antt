@@ -1,8 +1,8 @@
--- Labels that rise, and one of them.
+-- Sorted labels, and look-up in them.
 use Rattle.std.specs.Prelude.{ℕ, ◌<◌, nat_eq, List, AllPairs, find, Option, option_map}
 use Rattle.mud_roads.specs.declared.label.Label.{Label}
 
--- each room is above those before it; only private clauses cite this
+-- the rooms are strictly increasing; only private clauses cite this
 abbrev pub Rises : List (ℕ × Label) → Type 0
 Rises labels = AllPairs (λ (d : ℕ × Label) (e : ℕ × Label). d.0 < e.0) labels
 

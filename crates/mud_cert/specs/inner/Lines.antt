@@ -19,15 +19,15 @@ with_line_feed line = line ++ LF ∷ []
 abbrev pub exit_text : ℕ → List ℕ
 exit_text exit = codes " #" ++ decimal exit
 
--- the second line says the version
+-- the second line has the version
 abbrev pub version_line : ℕ → List ℕ
 version_line version = codes "version " ++ decimal version
 
--- a member's first line says who he is, and where he stands
+-- a member's first line has the player and its place
 abbrev pub member_line : ℕ → ℕ → List ℕ
 member_line player from = codes "member #" ++ decimal player ++ codes " from #" ++ decimal from
 
--- a member's second line has his labels
+-- a member's second line has its labels
 abbrev pub labels_line : Form → List (ℕ × Label) → List ℕ
 labels_line form labels = codes "labels" ++ flat_map (entry_text form) labels
 

@@ -1,10 +1,10 @@
--- A certificate as far as its members go.
+-- The members of a certificate that were read so far.
 use Rattle.std.specs.Prelude.{ℕ, ◌≤◌, List, length, All}
 use Rattle.mud_cert.specs.declared.cert.Form.{Form}
 use Rattle.mud_cert.specs.Certificate.{Account, IsAmount, IsAccount, CountsBy}
 use Rattle.mud_world.specs.declared.limits.TheConstants.{MOST_PARTY}
 
--- of which world it speaks, how its labels count, and the members so far
+-- the version of the world, the form of the labels, and the members so far
 pub record Opening : Type 0 where
   pub form : Form
   pub version : ℕ

@@ -1,4 +1,4 @@
--- What each reader of a line gives. What a text is, Text says.
+-- The result of each reader of a line. Text defines the spellings.
 use Rattle.std.specs.Prelude.{ℕ, zero, suc, ◌+◌, ◌-◌, ◌*◌, ◌==◌, nat_lt, nat_le, Bool, true, ◌&&◌, if◌then◌else◌}
 use Rattle.std.specs.Prelude.{List, [], ◌∷◌, length, Option, None, Some, codes}
 use Rattle.std.specs.Str.{bytes_eq}
@@ -11,7 +11,7 @@ use Rattle.mud_cert.specs.declared.cert.Form.TheVariants.{One, Two}
 use Rattle.mud_cert.specs.declared.cert.Conclusion.{Conclusion}
 use Rattle.mud_cert.specs.declared.cert.Conclusion.TheVariants.{Route, Meet}
 
--- what is found in the one is handed to the next
+-- the result of the first is passed to the second
 infixl 10 ◌>>=◌
 abbrev pub ◌>>=◌ : {A B : Type 0} → Option A → (A → Option B) → Option B
 (Some x) >>= f = f x
@@ -23,16 +23,16 @@ None >>= f = None
 abbrev pub is_digit : ℕ → Bool
 is_digit b = nat_le ZERO b && nat_le b NINE
 
--- the number that goes on with the digits at the front, and the bytes after them
+-- the number continued by the leading digits, and the bytes after them
 abbrev pub digits_on : ℕ → List ℕ → ℕ × List ℕ
 digits_on n [] = (n, [])
 digits_on n (b ∷ bs) = if is_digit b then digits_on (n * 10 + (b - ZERO)) bs else (n, b ∷ bs)
 
--- the number, where it has at most nine digits
+-- the number, if it has at most nine digits
 abbrev pub small : ℕ × List ℕ → Option (ℕ × List ℕ)
 small p = if nat_lt p.0 AMOUNTS then Some p else None
 
--- a number of at most nine digits, the first of which is 0 only in 0 itself
+-- a number of at most nine digits without leading zeros
 unfoldable pub number_at : List ℕ → Option (ℕ × List ℕ)
 number_at [] = None
 number_at (b ∷ bs) = if b == ZERO then Some (0, bs) else if is_digit b then small (digits_on (b - ZERO) bs) else None
@@ -45,18 +45,18 @@ object_at bytes = do
 
 -- ---- pieces
 
--- what stands after the literal text
+-- the bytes after the literal text
 unfoldable pub after : List ℕ → List ℕ → Option (List ℕ)
 after [] bytes = Some bytes
 after (c ∷ cs) [] = None
 after (c ∷ cs) (b ∷ bs) = if b == c then after cs bs else None
 
--- the value, where nothing stands after it
+-- the value, if no bytes follow it
 unfoldable pub whole : {A : Type 0} → A × List ℕ → Option A
 whole (x, []) = Some x
 whole (x, b ∷ bs) = None
 
--- pieces one after the other, to the end of the bytes; as many as there are bytes, at most
+-- the pieces up to the end of the bytes; at most as many as there are bytes
 unfoldable pub pieces_at : {A : Type 0} → (List ℕ → Option (A × List ℕ)) → ℕ → List ℕ → Option (List A)
 pieces_at piece_at count [] = Some []
 pieces_at piece_at zero (b ∷ bs) = None
@@ -80,7 +80,7 @@ version_at line = do
   n ← number_at rest
   whole n
 
--- a player and his place, of a member's first line
+-- a player and its place, of a member's first line
 unfoldable pub member_at : List ℕ → Option (ℕ × ℕ)
 member_at line = do
   rest ← after (codes "member #") line
@@ -89,7 +89,7 @@ member_at line = do
   from ← object_at behind
   whole ((player.0, from.0), from.1)
 
--- the count of exits of a label, which form one leaves out
+-- the number of exits of a label, which form one leaves out
 unfoldable pub exits_at : Form → List ℕ → Option (ℕ × List ℕ)
 exits_at One bytes = Some (0, bytes)
 exits_at Two bytes = do
@@ -106,7 +106,7 @@ entry_at form bytes = do
   exits ← exits_at form cost.1
   Some ((room.0, record { cost = cost.0; exits = exits.0 }), exits.1)
 
--- each room is above the one before it
+-- the room is above the one before it
 abbrev pub is_above : Option ℕ → ℕ → Bool
 is_above None room = true
 is_above (Some last) room = nat_lt last room
@@ -115,7 +115,7 @@ abbrev pub rises : Option ℕ → List (ℕ × Label) → Bool
 rises last [] = true
 rises last (e ∷ es) = is_above last e.0 && rises (Some e.0) es
 
--- rising labels, of a member's second line
+-- sorted labels, of a member's second line
 unfoldable pub labels_at : Form → List ℕ → Option (List (ℕ × Label))
 labels_at form line = do
   rest ← after (codes "labels") line
@@ -128,7 +128,7 @@ exit_at bytes = do
   rest ← after (codes " #") bytes
   object_at rest
 
--- the exits of a walk that has some
+-- the exits of a non-empty walk
 unfoldable pub exits_of : List ℕ → Option (Option (List ℕ))
 exits_of [] = None
 exits_of (b ∷ bs) = do
@@ -149,20 +149,20 @@ cost_at bytes = do
   cost ← number_at rest
   whole cost
 
--- the cost of a route to a room, or that there is none
+-- the cost of a route to a room, or that there is no way
 unfoldable pub way_at : ℕ → List ℕ → Option Conclusion
 way_at to bytes =
     if bytes_eq bytes (codes " no way") then Some (Route to None)
     else cost_at bytes >>= λ cost. Some (Route to (Some cost))
 
--- where a route leads, and at which cost
+-- the target and the cost of a route
 unfoldable pub route_at : List ℕ → Option Conclusion
 route_at line = do
   rest ← after (codes "route #") line
   to ← object_at rest
   way_at to.0 to.1
 
--- where a party meets, and at which cost
+-- the room and the cost of a meeting
 unfoldable pub meeting_at : List ℕ → Option Conclusion
 meeting_at line = do
   rest ← after (codes "meet #") line
@@ -170,7 +170,7 @@ meeting_at line = do
   cost ← cost_at room.1
   Some (Meet (Some (record { room = room.0; cost = cost })))
 
--- the first that is there
+-- the first one that exists
 abbrev pub either : {A : Type 0} → Option A → Option A → Option A
 either (Some x) other = Some x
 either None other = other

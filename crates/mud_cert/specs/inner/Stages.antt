@@ -1,4 +1,4 @@
--- What the lines so far say, and what one line more says.
+-- The meaning of the lines read so far, and the effect of one more line.
 use Rattle.std.specs.Prelude.{ℕ, ◌<◌, ◌==◌, nat_lt, nat_le, Bool, ◌&&◌, if◌then◌else◌}
 use Rattle.std.specs.Prelude.{List, [], ◌∷◌, ◌++◌, length, Option, None, Some, codes}
 use Rattle.std.specs.Str.{bytes_eq}
@@ -17,7 +17,7 @@ use Rattle.mud_world.specs.declared.limits.TheConstants.{MOST_PARTY}
 abbrev pub certificate_with : Opening → Conclusion → Certificate
 certificate_with p c = record { version = p.version; form = p.form; members = p.members; conclusion = c }
 
--- the lines that said it
+-- the lines that lead to the stage
 unfoldable pub lines_of : Stage → List (List ℕ)
 lines_of Nothing = []
 lines_of (Headed form) = head_line form ∷ []
@@ -28,7 +28,7 @@ lines_of (Labelled p m) =
 lines_of (Concluded c) = opening_lines c.form c.version c.members ++ conclusion_line c.conclusion ∷ []
 lines_of (Whole c) = cert_lines c
 
--- what is said keeps the limits
+-- the stage keeps the limits
 unfoldable pub IsStage : Stage → Type 0
 IsStage Nothing = Unit {0}
 IsStage (Headed form) = Unit {0}
@@ -43,17 +43,17 @@ abbrev pub suits : ℕ → Conclusion → Bool
 suits count (Route to cost) = count == 1
 suits count (Meet meeting) = nat_le 2 count && nat_le count MOST_PARTY
 
--- a line after the members that is no member's
+-- the stage after a line that follows the members and is not a member's
 unfoldable pub conclude : Opening → Option Conclusion → Option Stage
 conclude p None = None
 conclude p (Some c) = if suits (length p.members) c then Some (Concluded (certificate_with p c)) else None
 
--- a line after the members
+-- the stage after a line that follows the members
 unfoldable pub join : Opening → Option (ℕ × ℕ) → List ℕ → Option Stage
 join p None line = conclude p (conclusion_at line)
 join p (Some m) line = if nat_lt (length p.members) MOST_PARTY then Some (Placed p m.0 m.1) else None
 
--- what one line more says; nothing where no certificate goes on so
+-- the stage after one more line, or None if no certificate continues this way
 unfoldable pub next : Stage → List ℕ → Option Stage
 next Nothing line = head_at line >>= λ form. Some (Headed form)
 next (Headed form) line =
@@ -67,7 +67,7 @@ next (Labelled p m) line =
 next (Concluded c) line = if bytes_eq line (codes "end") then Some (Whole c) else None
 next (Whole c) line = None
 
--- what many lines say
+-- the stage after these lines
 unfoldable pub run : Stage → List (List ℕ) → Option Stage
 run s [] = Some s
 run s (line ∷ lines) = next s line >>= λ t. run t lines

@@ -1,4 +1,4 @@
--- The tests of a certificate in their order. What they find, Doubts and Valid say.
+-- The tests of a certificate in order. Doubts and Valid define their meaning.
 use Rattle.std.specs.Prelude.{ℕ, ◌+◌, nat_eq, nat_lt, nat_le, not, Bool, true, false, ◌&&◌, ◌||◌, if◌then◌else◌}
 use Rattle.std.specs.Prelude.{List, [], ◌∷◌, ◌++◌, find, Option, None, Some, option_map, option_and_then, is_none}
 use Rattle.std.specs.List.{list_any, list_all, range_with_len}
@@ -18,7 +18,7 @@ use Rattle.mud_cert.specs.Lookup.{label_at}
 use Rattle.mud_cert.specs.inner.Ways.{step_of, steps_of, end_of, arrival_of}
 use Rattle.mud_cert.specs.inner.Agreement.{greatest_cost}
 
--- a lesser cost, or the same and no more exits
+-- a smaller cost, or an equal cost and no more exits
 abbrev pub is_at_most : Label → Label → Bool
 is_at_most a b = nat_lt a.cost b.cost || (nat_eq a.cost b.cost && nat_le a.exits b.exits)
 
@@ -31,32 +31,32 @@ is_label None l = false
 abbrev pub leaves : State → ℕ → ℕ → Bool
 leaves w room x = is_number room (source_of w x)
 
--- the place, counted from i, of the first exit that doesn't leave where the walk stands
+-- the place, counted from i, of the first exit that does not leave the room where the walk has arrived
 abbrev pub first_break : State → ℕ → ℕ → List ℕ → Option ℕ
 first_break w at i [] = None
 first_break w at i (x ∷ xs) = if leaves w at x then first_break w (step_of w x).to (i + 1) xs else Some i
 
--- the place, counted from i, of the first exit that isn't open to p
+-- the place, counted from i, of the first exit that is not open to p
 abbrev pub first_lock : State → ℕ → ℕ → List ℕ → Option ℕ
 first_lock w p i [] = None
 first_lock w p i (x ∷ xs) = if passable w p x then first_lock w p (i + 1) xs else Some i
 
--- a walk ends at the room and costs so much
+-- a walk ends at the room and has exactly this cost
 abbrev pub is_there_at : ℕ → ℕ → Option (ℕ × ℕ) → Bool
 is_there_at room cost None = false
 is_there_at room cost (Some a) = nat_eq a.0 room && nat_eq a.1 cost
 
--- a walk ends at the room and costs at most so much
+-- a walk ends at the room and has at most this cost
 abbrev pub is_there_within : ℕ → ℕ → Option (ℕ × ℕ) → Bool
 is_there_within room cost None = false
 is_there_within room cost (Some a) = nat_eq a.0 room && nat_le a.1 cost
 
--- the cost and the room don't come after the other ones
+-- the cost and the room do not come after the other ones
 abbrev pub is_no_worse : ℕ → ℕ → ℕ → Option ℕ → Bool
 is_no_worse cost room other None = true
 is_no_worse cost room other (Some c) = nat_lt cost c || (nat_eq cost c && nat_le room other)
 
--- the labels of the first member: a room that is labelled for all is among them
+-- the labels of the first member; they contain each room that is labelled for all
 abbrev pub first_labels : List Account → List (ℕ × Label)
 first_labels [] = []
 first_labels (m ∷ ms) = m.labels
@@ -65,7 +65,7 @@ first_labels (m ∷ ms) = m.labels
 abbrev pub stays : Account → Bool
 stays m = is_none m.walk
 
--- no walk is given, and the room isn't labelled
+-- no walk is given, and the room has no label
 abbrev pub misses : ℕ → Account → Bool
 misses room m = stays m && is_none (label_at m room)
 
@@ -81,7 +81,7 @@ concludes w ms (Meet (Some a)) =
 concludes w ms (Meet None) =
     list_all stays ms && list_all (λ (e : ℕ × Label). is_none (greatest_cost ms e.0)) (first_labels ms)
 
--- the first of two doubts, of which each may not hold
+-- the first of two doubts that exists, if one does
 infixr 5 ◌or◌
 abbrev pub ◌or◌ : Option Doubt → Option Doubt → Option Doubt
 (Some d) or o = Some d
@@ -92,23 +92,23 @@ abbrev pub unless : Bool → Doubt → Option Doubt
 unless true d = None
 unless false d = Some d
 
--- all numbers that were given to objects, rising
+-- all numbers that were given to objects, sorted
 abbrev pub numbers : State → List ℕ
 numbers w = range_with_len 0 w.next
 
--- he is a player of the world, and no earlier member
+-- the member is a player of the world, and not an earlier member
 abbrev pub is_new : State → List Account → Account → Bool
 is_new w earlier m = is_player w m.player && not (list_any (λ e. nat_eq e.player m.player) earlier)
 
--- he stands where it is claimed
+-- the member stands where the certificate claims
 abbrev pub stands : State → Account → Bool
 stands w m = is_number m.from (place_of w m.player)
 
--- his start is labelled 0, and each labelled number is a room
+-- the member's start is labelled 0, and each labelled number is a room
 abbrev pub is_started : State → Account → Bool
 is_started w m = is_label (label_at m m.from) start_label && list_all (λ (e : ℕ × Label). is_room w e.0) m.labels
 
--- from a labelled room the step leads to a label that is at most the one a step on
+-- from a labelled room the step leads to a label that is at most the label after the step
 abbrev pub is_kept : ℕ → Option Label → Option Label → Step → Bool
 is_kept hop None there s = true
 is_kept hop (Some l) None s = false
@@ -118,7 +118,7 @@ is_kept hop (Some l) (Some k) s = is_at_most k (after hop l s)
 abbrev pub label_behind : State → Account → ℕ → Option Label
 label_behind w m x = option_and_then (label_at m) (source_of w x)
 
--- exit x is open to the member, and leads from a labelled room to one that has no label or one that is too great
+-- exit x is open to the member, and leads from a labelled room to one without a label or with a label that is too great
 abbrev pub breaks : State → Form → Account → ℕ → Bool
 breaks w form m x =
     passable w m.player x
@@ -132,12 +132,12 @@ walk_doubt w form m walk =
     or option_map (λ i. doubts.WalkLocked m.player i) (first_lock w m.player 1 walk)
     or unless (is_label (label_at m (end_of m.from ss)) (total (hop_of form) ss)) (doubts.WalkCost m.player)
 
--- the first doubt of a walk, if there is one: a member may have none
+-- the first doubt of a walk, if one is given; a member may have no walk
 abbrev pub given_doubt : State → Form → Account → Option (List ℕ) → Option Doubt
 given_doubt w form m None = None
 given_doubt w form m (Some walk) = walk_doubt w form m walk
 
--- the first doubt of a member who comes after these
+-- the first doubt of a member that follows these
 abbrev pub member_doubt : State → Form → List Account → Account → Option Doubt
 member_doubt w form earlier m =
     unless (is_new w earlier m) (doubts.NoSuchPlayer m.player)
@@ -146,7 +146,7 @@ member_doubt w form earlier m =
     or option_map (λ x. doubts.Arc m.player x) (find (breaks w form m) (numbers w))
     or given_doubt w form m m.walk
 
--- the first doubt of members who come after these
+-- the first doubt of members that follow these
 abbrev pub members_doubt : State → Form → List Account → List Account → Option Doubt
 members_doubt w form earlier [] = None
 members_doubt w form earlier (m ∷ ms) = member_doubt w form earlier m or members_doubt w form (earlier ++ m ∷ []) ms

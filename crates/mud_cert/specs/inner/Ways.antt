@@ -1,5 +1,5 @@
--- Walks that are given as numbers of exits, as the tests go along them. All is defined for any numbers: a number that
--- is no exit's makes a step to #0 at no cost, but leaves no room and is open to nobody.
+-- Walks that are given by exit numbers, as the tests follow them. Everything is defined for any numbers: a number that
+-- is not an exit gives a step to #0 at no cost, but leaves no room and is open to no player.
 use Rattle.std.specs.Prelude.{ℕ, List, [], ◌∷◌, map, Option, None, Some}
 use Rattle.std.specs.Option.{option_map_or}
 use Rattle.mud_roads.specs.declared.label.Step.{Step}
@@ -8,26 +8,26 @@ use Rattle.mud_roads.specs.Passable.{step_by}
 use Rattle.mud_world.specs.State.{State, passage_of}
 use Rattle.mud_cert.specs.Certificate.{Account}
 
--- the step that exit x makes
+-- the step of exit x
 abbrev pub step_of : State → ℕ → Step
 step_of w x = option_map_or (step_by x) (passage_of w x) (record { exit = x; to = 0; cost = 0 })
 
--- the steps that exits make, one after the other
+-- the steps of the exits, in order
 abbrev pub steps_of : State → List ℕ → List Step
 steps_of w xs = map (step_of w) xs
 
--- where steps from a room lead
+-- the room where steps from a room lead
 abbrev pub end_of : ℕ → List Step → ℕ
 end_of at [] = at
 end_of at (s ∷ ss) = end_of s.to ss
 
--- where a walk from the room ends, if one is given, and what it costs
+-- the end and the cost of a walk from the room, if one is given
 abbrev pub arrival : State → ℕ → Option (List ℕ) → Option (ℕ × ℕ)
 arrival w from None = None
 arrival w from (Some walk) =
     let ss = steps_of w walk in
     Some (end_of from ss, (total 0 ss).cost)
 
--- where the member's walk ends, if one is given, and what it costs
+-- the end and the cost of the member's walk, if one is given
 abbrev pub arrival_of : State → Account → Option (ℕ × ℕ)
 arrival_of w m = arrival w m.from m.walk

@@ -1,4 +1,4 @@
--- What one line is.
+-- The role of a line.
 use Rattle.std.specs.Prelude.{◌≡◌, ℕ, ◌+◌, List}
 use Rattle.mud_chron.specs.declared.format.Format.{Format}
 use Rattle.mud_chron.specs.declared.line.Line.{Line}
@@ -7,7 +7,7 @@ use Rattle.mud_chron.specs.Text.{entry_line, end_line}
 use Rattle.mud_chron.specs.History.{IsEntryOf}
 use Rattle.mud_chron.specs.inner.Texts.{IsBad}
 
--- what the line is after this many entries
+-- the role of the line after this many entries
 abbrev pub IsLine : Format → ℕ → List ℕ → Line → Type 0
 IsLine format count line (lines.Entry e) = IsEntryOf format e × (line ≡ entry_line (count + 1) e)
 IsLine format count line lines.End = line ≡ end_line count

@@ -1,4 +1,4 @@
--- What each reader of a line gives.
+-- The result of each reader of a line.
 use Rattle.std.specs.Prelude.{◌≡◌, ℕ, nat_eq, nat_le, List, [], ◌∷◌, codes, if◌then◌else◌}
 use Rattle.std.specs.Prelude.{Option, None, Some, Result, Ok, Err}
 use Rattle.std.specs.Option.{option_map, ok_or}
@@ -27,22 +27,22 @@ use Rattle.mud_chron.specs.declared.fields.Unread.TheVariants.{OutOfMemory, NoEn
 use Rattle.mud_chron.specs.inner.Fields.{digits_on, up_to, object_in}
 
 infixl 10 ◌>>=◌
--- what is found next, where something was found
+-- the second result, if the first one exists
 abbrev pub ◌>>=◌ : {A B : Type 0} → Option A → (A → Option B) → Option B
 (Some x) >>= f = f x
 None >>= f = None
 
--- the call gave what there is to be found, unless memory ran out
+-- unless memory ran out, there is no value
 abbrev pub Missed : {Y : Type 0} → Unread → Option Y → Type 0
 Missed OutOfMemory found = Unit {0}
 Missed NoEntry found = found ≡ None
 
--- the call told what there is to be found, as it is viewed, or that there is nothing, unless memory ran out
+-- unless memory ran out, the call returned the value, as f shows it, or that there is none
 abbrev pub Tells : {X Y : Type 0} → (X → Y) → Result X Unread → Option Y → Type 0
 Tells view (Ok x) found = found ≡ Some (view x)
 Tells view (Err fault) found = Missed fault found
 
--- what stands in front of the first such byte, and what stands after it
+-- the bytes before the first occurrence of a byte, and those after it
 abbrev pub cut : ℕ → List ℕ → Option (List ℕ × List ℕ)
 cut b [] = None
 cut b (c ∷ text) = if nat_eq c b then Some ([], text) else option_map (λ p. (c ∷ p.0, p.1)) (cut b text)
@@ -51,22 +51,22 @@ cut b (c ∷ text) = if nat_eq c b then Some ([], text) else option_map (λ p. (
 abbrev pub number_up_to : ℕ → List ℕ → Option ℕ
 number_up_to most text = up_to most (digits_on 0 text)
 
--- the number of an object up to a space, and what stands after it
+-- the number of an object up to a space, and the text after the space
 unfoldable pub object_before : List ℕ → Option (ℕ × List ℕ)
 object_before text = do
   p ← cut SPACE text
   n ← object_in p.0
   Some (n, p.1)
 
--- what can be said
+-- the text as a speech
 unfoldable pub speech_in : List ℕ → Option (List ℕ)
 speech_in text = if is_speech text then Some text else None
 
--- what the texts of a key name
+-- the numbers that the texts of a key mean
 abbrev pub meaning : List ℕ → Result ℕ Miss
 meaning text = ok_or (object_in text) NoSuch
 
--- the key, where each object has a number
+-- the key, if each object has a number
 abbrev pub without_miss : Result (Tree ℕ) Miss → Option (Tree ℕ)
 without_miss (Ok key) = Some key
 without_miss (Err miss) = None
@@ -77,14 +77,14 @@ number_key_in text = do
   key ← key_in text
   without_miss (resolved meaning key)
 
--- the names up to a quote, and what stands after it
+-- the names up to a quote, and the text after it
 unfoldable pub names_before : List ℕ → Option (List (List ℕ) × List ℕ)
 names_before text = do
   p ← cut QUOTE text
   names ← names_in p.0
   Some (names, p.1)
 
--- the names between the first two quotes, and what stands after them
+-- the names between the first two quotes, and the text after them
 unfoldable pub quoted_in : List ℕ → Option (List (List ℕ) × List ℕ)
 quoted_in text = do
   p ← cut QUOTE text
@@ -97,14 +97,14 @@ quoted_name_in text = do
   q ← cut QUOTE p.1
   name_in q.0
 
--- the names of the exit back; none where nothing is left
+-- the names of the exit back, or none if no text is left
 unfoldable pub back_in : List ℕ → Option (Option (List (List ℕ)))
 back_in [] = Some None
 back_in (b ∷ text) = do
   names ← quoted_in (b ∷ text)
   Some (Some names.0)
 
--- the exits of a dig; none where nothing is left
+-- the exits of a dig, or none if no text is left
 unfoldable pub doors_in : List ℕ → Option (Option Doors)
 doors_in [] = Some None
 doors_in (b ∷ text) = do
@@ -119,7 +119,7 @@ new_in text = do
   doors ← doors_in names.1
   Some (deed.Dig (New names.0) doors)
 
--- a way to an old room, where it has an exit
+-- a dig to an existing room, if it has an exit
 abbrev pub way_to : ℕ → Option Doors → Option Deed
 way_to room None = None
 way_to room (Some doors) = Some (deed.Dig (Old room) (Some doors))
@@ -194,7 +194,7 @@ emote_in text = do
   speech ← speech_in text
   Some (deed.Emote speech)
 
--- the deed that stands after a verb
+-- the deed after a verb
 unfoldable pub deed_in : Verb → List ℕ → Option Deed
 deed_in Dig text = dig_in text
 deed_in Make text = make_in text
@@ -241,7 +241,7 @@ desk_in text = do
   desk ← number_up_to MOST_DESKS text
   if nat_le 1 desk then Some desk else None
 
--- the entry of a line, whatever version it makes
+-- the entry of a line, whatever its version
 unfoldable pub entry_in : List ℕ → Option Entry
 entry_in line = do
   version ← cut SPACE line

@@ -10,11 +10,11 @@ use Rattle.mud_chron.specs.Entry.{Entry}
 use Rattle.mud_chron.specs.Text.{in_quotes, deed_text, entry_line, line_feed, journal_text, history_text, end_line}
 use Rattle.mud_chron.specs.Faults.{IsNoEntryLine}
 
--- the exit back of a dig, where there is one
+-- the exit back of a dig, if there is one
 abbrev pub back_text : Option (List (List ℕ)) → List ℕ
 back_text back = option_map_or (λ names. codes " back " ++ in_quotes names) back []
 
--- the exits of a dig, where there are any
+-- the exits of a dig, if there are any
 abbrev pub doors_text : Option Doors → List ℕ
 doors_text doors = option_map_or (λ d. codes " out " ++ in_quotes d.out ++ back_text d.back) doors []
 
@@ -26,7 +26,7 @@ change_text change = deed_text (number_text change.actor) change.deed
 abbrev pub entry_text : ℕ → Entry → List ℕ
 entry_text version e = entry_line version e ++ line_feed
 
--- the text of a journal of these entries, and what stands after it
+-- the text of a journal of these entries, and the bytes after it
 abbrev pub begun_text : Format → List Entry → List ℕ → List ℕ
 begun_text format entries rest = journal_text format entries ++ rest
 

@@ -1,4 +1,4 @@
--- What the parts of `shorten` answer. What a shorter history of the same world is, Shorter says.
+-- The results of the parts of `shorten`. Shorter defines a shorter history of the same world.
 use Rattle.std.specs.Prelude.{◌≡◌, ◌≤◌, ◌<◌, false, List, length}
 use Rattle.mud_world.specs.State.{State}
 use Rattle.mud_world.specs.History.{world_of}
@@ -6,7 +6,7 @@ use Rattle.mud_chron.specs.Entry.{Entry}
 use Rattle.mud_chron.specs.Replay.{changes_of, AreLegal}
 use Rattle.mud_compact.specs.Shorter.{without_talk, has_talk, LeadsToSame}
 
--- the entries are left without their talk: they are no more then, and where they are legal they lead to the same world
+-- the entries without their talk: there are no more of them, and if the entries are legal, these lead to the same world
 pub record IsQuiet (entries quiet : List Entry) : Type 0 where
   pub is : quiet ≡ without_talk entries
   pub silent : has_talk quiet ≡ false

@@ -1,4 +1,4 @@
--- What is told of the steps of desks.
+-- The results of desks' steps, as text.
 use Rattle.std.specs.Prelude.{ℕ, List, ◌++◌, length, codes}
 use Rattle.std.specs.Fmt.{decimal}
 use Rattle.std.specs.List.{flat_map}
@@ -27,21 +27,21 @@ reply_line (Failed fault) = fault_line fault
 abbrev pub answer_lines : Answered → List ℕ
 answer_lines a = codes "[" ++ decimal a.version ++ codes "] " ++ a.text ++ codes "\n"
 
--- how many entries a desk has seen
+-- the number of entries that a desk has seen
 abbrev pub seen_line : ℕ → List ℕ
 seen_line n = codes "seen " ++ decimal n ++ codes "\n"
 
--- how many lines a desk was told, and the lines
+-- the number of notices of a desk, and the notices
 abbrev pub told_lines : List (List ℕ) → List ℕ
 told_lines lines = codes "told " ++ decimal (length lines) ++ codes "\n" ++ flat_map (λ line. line ++ codes "\n") lines
 
--- what the desks made, and the text of its history
+-- the numbers of accepted and of loaded entries, and the text of the history
 abbrev pub settled_lines : ℕ → ℕ → List Entry → List ℕ
 settled_lines accepted loaded history =
     codes "settled " ++ decimal (length history) ++ codes " accepted " ++ decimal accepted ++ codes " loaded "
     ++ decimal loaded ++ codes "\n" ++ written_text history
 
--- why the hall was not closed
+-- the reason why the hall was not closed
 abbrev pub unsettled_line : CloseFault → List ℕ
 unsettled_line OutOfMemory = fault_line fault.OutOfMemory
 unsettled_line (SameNumber n) = codes "same number " ++ decimal n ++ codes "\n"

@@ -17,12 +17,12 @@ use Rattle.mud_explain.specs.declared.step.Turn.TheVariants.{Act, Ask, See, Seen
 use Rattle.mud_explain.specs.inner.StepLines.{settled_lines, unsettled_line}
 use Rattle.mud_explain.specs.inner.StepLines.{fault_line, reply_line, answer_lines, seen_line, told_lines}
 
--- an answer, or none where memory ran out
+-- an answer, or none if memory ran out
 abbrev pub TellsAnswer : View → List ℕ → List ℕ → Type 0
 TellsAnswer d line told =
     ((a : Answered) × Answers d.state (parse_of line) a × (told ≡ answer_lines a)) ⊎ (told ≡ fault_line OutOfMemory)
 
--- what a desk does by itself in a hall of this capacity, and what is told of it
+-- the turn of a desk in a hall of this capacity, and its output
 abbrev pub Turns : ℕ → Turn → View → View → List ℕ → Type 0
 Turns capacity (Act line) old new told =
     (reply : Reply) × Acts capacity old.state (parse_of line.now) reply new.state × (told ≡ reply_line reply)
@@ -35,19 +35,19 @@ Turns capacity Told old new told =
     × (new.state ≡ with_told old.state new.state.told) × (told ≡ told_lines lines)
 Turns capacity Guest old new told = (new.state ≡ as_guest old.state) × (told ≡ codes "guest\n")
 
--- the desk of this number is another one afterwards, and no other desk changes
+-- the desk with this number changes, and no other desk does
 pub record IsAnother (n : ℕ) (old new : List View) (was is : View) : Type 0 where
   pub place : ℕ
   pub before : slice_get old place ≡ Some was
   pub number : was.state.number ≡ n
   pub after : new ≡ slice_set old place is
 
--- a desk of a hall of this capacity does something by itself
+-- the turn of one desk of a hall of this capacity
 abbrev pub TurnsOne : ℕ → ℕ → Turn → List View → List View → List ℕ → Type 0
 TurnsOne capacity n turn old new told =
     (was : View) × (is : View) × IsAnother n old new was is × Turns capacity turn was is told
 
--- a new desk, or why there is none
+-- a new desk, or the reason why there is none
 abbrev pub Gives : List Entry → List View → List View → List ℕ → Type 0
 Gives loaded old new told =
     ((d : View) × IsNew loaded d.state × (new ≡ old ++ d ∷ [])
@@ -62,17 +62,17 @@ Lacks hall desks n = (hall ≡ None) ⊎ (HasNumber desks n → ⊥)
 abbrev pub DoesNothing : List View → List View → List ℕ → Type 0
 DoesNothing old new told = (new ≡ old) × (told ≡ codes "not understood\n")
 
--- the desks that are handed in have these numbers, and the others are the rest
+-- the desks handed in have these numbers, and the others are the rest
 pub record AreHanded (numbers : List ℕ) (desks handed rest : List View) : Type 0 where
   pub numbers_are : map (λ d. d.state.number) handed ≡ numbers
   pub all : IsPermutation desks (handed ++ rest)
 
--- the hall ended with the history that the desks made
+-- the hall was closed with the history that the desks made
 abbrev pub Settles : {H : Type 0} → List Entry → List View → Option H → List ℕ → Type 0
 Settles loaded handed hall told = (history : List Entry) × IsSettled loaded handed history × (hall ≡ None)
     × (told ≡ settled_lines (length (entries_made loaded history)) (length loaded) history)
 
--- the hall goes on with all its desks
+-- the hall continues with all its desks
 abbrev pub GoesOn : {H : Type 0} → List Entry → List View → List View → Option H → Option H → List View → List ℕ
     → Type 0
 GoesOn loaded handed rest was hall desks told = (fault : CloseFault) × IsCloseFault loaded handed fault × (hall ≡ was)

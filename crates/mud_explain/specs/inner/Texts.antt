@@ -1,4 +1,4 @@
--- Parts of what is shown of units and lines.
+-- Parts of the output about units and lines.
 use Rattle.std.specs.Prelude.{ℕ, ◌/◌, ◌%◌, List, [], ◌∷◌, ◌++◌, codes, Option}
 use Rattle.std.specs.Option.{option_map_or}
 use Rattle.std.specs.List.{flat_map}

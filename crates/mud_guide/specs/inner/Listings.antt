@@ -1,4 +1,4 @@
--- How the accounts of a certificate are made from labels and legs.
+-- The accounts of a certificate, made from labels and legs.
 use Rattle.std.specs.Prelude.{◌≡◌, ℕ, ◌+◌, ◌<◌, List, Option, All, IfSome, length}
 use Rattle.std.specs.Prelude.{slice_index_or}
 use Rattle.std.specs.Option.{option_map}
@@ -18,7 +18,7 @@ pub record IsInside (next : ℕ) (j : Leg) : Type 0 where
   pub from : j.from < next
   pub exits : IfSome j.way (All (λ s. s.exit < next))
 
--- whose leg it is, from where, all labels of numbers below `next`, and the exits of his way
+-- the player of the leg, its start, all labels of numbers below `next`, and the exits of its way
 pub record IsListed (labels : ℕ → Option Label) (next : ℕ) (j : Leg) (a : Account) : Type 0 where
   pub player : a.player ≡ j.player
   pub from : a.from ≡ j.from
@@ -31,7 +31,7 @@ pub record AreListed (labels : ℕ → ℕ → Option Label) (next : ℕ) (js : 
   pub each : (m : ℕ) (j : Leg) (a : Account) → m < length es
       → IsListed (labels m) next (slice_index_or js m j) (slice_index_or es m a)
 
--- the members of a party from a number on, how they go to the room, and what is claimed of them, within the limits
+-- the members of a party from a number on, their legs to the room, and the claims about them, within the limits
 pub record IsListing (w : State) (labels : ℕ → ℕ → Option Label) (first : ℕ) (to : Option ℕ) (ts : List Knowledge)
     (l : Listing) : Type 0 where
   pub legs : AllZip (λ t j. IsLeg w to t.player j) ts l.legs.items

@@ -1,4 +1,4 @@
--- What the guide needs to answer a question, and what a proof is.
+-- The premises of the guide, and the answer to a question for a proof.
 use Rattle.std.specs.Prelude.{ℕ, Option}
 use Rattle.std.specs.Option.{IsSome}
 use Rattle.mud_world.specs.State.{State}

@@ -1,4 +1,4 @@
--- What a desk keeps, hears and answers, by its parts.
+-- The state, the notices and the answers of a desk, by their parts.
 use Rattle.std.specs.Prelude.{◌≡◌, ◌≤◌, ℕ, List, ◌++◌, length, take, drop, codes}
 use Rattle.std.specs.Prelude.{Option, Some, None, IsSomeAnd, IfSome, IsTrue}
 use Rattle.std.specs.Option.{option_map, option_and_then, option_to_list}
@@ -22,11 +22,11 @@ use Rattle.mud_row.specs.Known.{Standing}
 abbrev pub notice_of : ℕ → Option (List ℕ) → List (List ℕ)
 notice_of n line = option_to_list (option_map (notice_text n) line)
 
--- the notice of an entry for a player, if he hears it; it would be entry n, and w is the world before it
+-- the notice of an entry for a player, if the player hears it; it would be entry n, and w is the world before it
 abbrev pub notice_in : Option ℕ → ℕ → State → Entry → List (List ℕ)
 notice_in player n w e = notice_of n (option_and_then (heard_line w e.change) player)
 
--- the desk after it took these entries in: it hears of them
+-- the desk after it saw these entries and got their notices
 abbrev pub took_in : DeskState → List Entry → DeskState
 took_in s entries = record s { seen = s.seen ++ entries; told = s.told ++ notices s.player s.seen entries }
 
@@ -38,7 +38,7 @@ TellsProof cert text = IsSomeAnd cert (λ c. text ++ codes "\n" ≡ codes "proof
 abbrev pub IsSeated : State → Option ℕ → Type 0
 IsSeated w player = IfSome player (λ p. IsTrue (is_player w p))
 
--- the state of a desk of this replica; it hears also of what its world has not taken in yet
+-- the state of a desk with this replica; it also has notices of entries that its world has not applied yet
 abbrev pub state_of : ℕ → Option ℕ → Standing → List ℕ → List (List ℕ) → DeskState
 state_of number player r calls stored = record {
   number = number;
@@ -48,7 +48,8 @@ state_of number player r calls stored = record {
   told = stored ++ notices player (take r.at r.list) (drop r.at r.list);
 }
 
--- the answer in a world at its version, whatever entries led there; there is none to the question about those
+-- the answer in a world at its version, which does not depend on the entries before it; there is none to the question
+-- for those
 abbrev pub IsResponse : State → ℕ → Option ℕ → Verdict → Option Answer → Type 0
 IsResponse w v player verdict None = verdict ≡ Ask History
 IsResponse w v player verdict (Some a) =
@@ -59,7 +60,7 @@ IsResponse w v player verdict (Some a) =
 abbrev pub Travels : State → ℕ → Knowledge → Type 0
 Travels w p t = IsTraveller w t × (t.player ≡ p)
 
--- what a line is answered by: a world's version, a player of it or nobody, and a traveller of it, if one is known
+-- the context of an answer: a world's version, a player of it or none, and a traveller of it, if one is known
 pub record IsSight (w : State) (v : ℕ) (player : Option ℕ) (t : Option Knowledge) : Type 0 where
   pub few : v ≤ MOST_ENTRIES
   pub seated : IfSome player (λ p. IsTrue (is_player w p))

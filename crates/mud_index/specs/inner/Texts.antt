@@ -1,4 +1,4 @@
--- What the owners in memory are seen as.
+-- The model of the owners in memory.
 use Rattle.std.specs.Prelude.{ℕ, List, Vec, map}
 use Rattle.std.specs.declared.alloc.Global.{Global}
 

@@ -1,4 +1,4 @@
--- Lists and owners as they are seen.
+-- The models of lists and owners.
 use Rattle.std.specs.Prelude.{◌≡◌, ℕ, List, [], None, Vec, map}
 use Rattle.std.specs.declared.alloc.Global.{Global}
 use Rattle.mud_index.specs.Lists.{list_at}
@@ -12,7 +12,7 @@ AreEmpty lists = (n : ℕ) → list_at lists n ≡ []
 abbrev pub HaveNone : List (List ℕ × ℕ) → Type 0
 HaveNone owners = (t : List ℕ) → owner_of owners t ≡ None
 
--- each text has the same owner
+-- each text has the same owner in both
 abbrev pub HaveSameOwners : List (List ℕ × ℕ) → List (List ℕ × ℕ) → Type 0
 HaveSameOwners old new = (t : List ℕ) → owner_of new t ≡ owner_of old t
 

@@ -1,5 +1,5 @@
--- What the builder's parts are to the machine; proofs/Building.antt ties it to the grammar of key texts. `key_in` in
--- Finds.antt ends by `outer_settled`.
+-- The builder's parts as parts of the machine; proofs/Building.antt ties the machine to the grammar of key texts.
+-- `key_in` in Finds.antt ends with `outer_settled`.
 use Rattle.std.specs.Prelude.{ℕ, List, [], ◌∷◌, Option, Some, None, String, map, reverse, string_bytes}
 use Rattle.std.specs.declared.alloc.Global.{Global}
 use Rattle.mud_key.specs.declared.operator.Operator.{Operator}
@@ -12,20 +12,20 @@ use Rattle.mud_key.specs.Tree.{Tree}
 use Rattle.mud_key.specs.Node.{reading_of}
 use Rattle.mud_key.specs.inner.Machine as machine
 
--- a chain in front, and its operator
+-- the chain before an operator, and the operator
 abbrev pub chain_of : Option (Node (String Global) × Operator) → Option (Tree (List ℕ) × Operator)
 chain_of None = None
 chain_of (Some c) = Some (reading_of c.0, c.1)
 
--- what stands in front of a unary
+-- the context of a unary
 abbrev pub front_of : Front → machine.Front
 front_of f = record { chain = chain_of f.chain; nots = f.nots }
 
--- the innermost first
+-- the contexts, the innermost first
 abbrev pub outer_of : List Front → List machine.Front
 outer_of fs = reverse (map front_of fs)
 
--- where the builder stands
+-- the position of the builder
 abbrev pub mode_of : Mode → machine.Mode
 mode_of (mode.Operand f) = machine.Operand (front_of f)
 mode_of (mode.Asked f) = machine.Asked (front_of f)
@@ -39,22 +39,22 @@ abbrev pub state_of : Option Builder → Option machine.MachineState
 state_of None = None
 state_of (Some b) = Some (outer_of b.outer.items, mode_of b.mode)
 
--- how many `!` stand in front of the unary that comes
+-- the number of `!` before the next unary
 abbrev pub nots_before : machine.Mode → ℕ
 nots_before (machine.Operand f) = f.nots
 nots_before _ = 0
 
--- how many spaces stand after the name that is read
+-- the number of spaces after the name that is being read
 abbrev pub spaces_behind : machine.Mode → ℕ
 spaces_behind (machine.Named f a text n) = n
 spaces_behind _ = 0
 
--- the tree that was found, if one was
+-- the tree that was found, if any
 abbrev pub found_of : Option (Node (String Global)) → Option (Tree (List ℕ))
 found_of None = None
 found_of (Some k) = Some (reading_of k)
 
--- the key, where all is closed and whole
+-- the key, if all parentheses are closed and the chain is complete
 abbrev pub outer_settled : List machine.Front → machine.Mode → Option (Tree (List ℕ))
 outer_settled [] m = machine.chain_at_end m
 outer_settled (f ∷ outer) m = None

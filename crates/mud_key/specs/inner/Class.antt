@@ -1,5 +1,6 @@
--- What a byte is for the readers of keys and names. Clauses of private parts cite it, and the readers of Machine.antt
--- and NameReader.antt compute by it; `class_means` in proofs/Classes.antt ties it to the bytes that a name may have.
+-- Byte classes of the readers of keys and names. Private clauses cite them, and the readers of Machine.antt and
+-- NameReader.antt compute with them. `class_means` in proofs/Classes.antt ties them to the bytes that a name may
+-- contain.
 use Rattle.std.specs.Prelude.{ℕ, nat_le, nat_eq, ◌&&◌, if◌then◌else◌}
 use Rattle.mud_key.specs.declared.class.Class.{Class}
 use Rattle.mud_key.specs.declared.class.Class.TheVariants.{Space, Digit, Letter, Sharp, Bang, Question, Open, Close}

@@ -1,4 +1,4 @@
--- Digits, texts of no key, and the fewest parentheses.
+-- Digits, texts that are not key texts, and the fewest parentheses.
 use Rattle.std.specs.Prelude.{ℕ, ◌≤◌, List}
 use Rattle.mud_key.specs.declared.codes.TheConstants.{ZERO, NINE}
 use Rattle.mud_key.specs.Tree.{Tree}
@@ -9,7 +9,7 @@ use Rattle.mud_key.specs.Printed.{opens}
 abbrev pub IsDigit : ℕ → Type 0
 IsDigit b = (ZERO ≤ b) × (b ≤ NINE)
 
--- the text is a key text of no key
+-- the text spells no key
 abbrev pub IsNoKeyText : List ℕ → Type 0
 IsNoKeyText text = (key : Tree (List ℕ)) → SpellsKey text key → ⊥
 

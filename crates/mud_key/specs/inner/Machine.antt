@@ -1,5 +1,5 @@
--- A machine that reads a key text byte by byte. Clauses of private parts cite it, and `key_in` in Finds.antt
--- computes by it; the law `laws::key` ties that to the grammar of key texts.
+-- A state machine that reads a key text byte by byte. Private clauses cite it, and `key_in` in Finds.antt computes with
+-- it. The law `laws::key` ties that to the grammar of key texts.
 use Rattle.std.specs.Prelude.{ℕ, zero, suc, Bool, true, false, Option, Some, None, List, [], ◌∷◌, ◌++◌, length}
 use Rattle.std.specs.Prelude.{replicate}
 use Rattle.std.specs.Prelude.{nat_lt, if◌then◌else◌}
@@ -17,16 +17,16 @@ use Rattle.mud_key.specs.declared.class.Class.TheVariants.{Ampersand, Bar}
 abbrev pub Reading : Type 0
 Reading = Tree (List ℕ)
 
--- what stands in front of the unary that comes: a chain and its operator, and some `!`
+-- the context of the next unary: a chain with its operator, and a number of `!`
 pub record Front : Type 0 where
   pub chain : Option (Reading × Operator)
   pub nots : ℕ
 
--- nothing in front
+-- the empty context
 abbrev pub bare : Front
 bare = record { chain = None; nots = 0 }
 
--- the unary after so many `!`
+-- the unary after n times `!`
 abbrev pub with_nots : ℕ → Reading → Reading
 with_nots zero k = k
 with_nots (suc n) k = with_nots n (Not k)
@@ -45,8 +45,8 @@ abbrev pub atom : Bool → List ℕ → Reading
 atom true o = Asks o
 atom false o = Has o
 
--- where the machine stands: where a unary comes; where an object comes, after `?`; after a sharp and
--- digits; after a name and so many spaces; after a chain; after a chain and half an operator
+-- the position of the machine: a unary or, after `?`, an object is expected; after a sharp and digits; after a name and
+-- n spaces; after a chain; or after half an operator
 pub data Mode : Type 0 where
   Operand : Front → Mode
   Asked : Front → Mode
@@ -55,11 +55,11 @@ pub data Mode : Type 0 where
   After : Reading → Mode
   Half : Reading → Operator → Mode
 
--- what stands before each open parenthesis, the innermost first, and where the machine stands
+-- the state of the machine: the contexts of the open parentheses, the innermost first, and the position
 abbrev pub MachineState : Type 0
 MachineState = List Front × Mode
 
--- one byte further, after a chain
+-- the state after one more byte, after a chain
 abbrev pub after_step : List Front → Reading → Class → Option MachineState
 after_step outer k Space = Some (outer, After k)
 after_step outer k Ampersand = Some (outer, Half k And)
@@ -67,13 +67,13 @@ after_step outer k Bar = Some (outer, Half k Or)
 after_step (f ∷ outer) k Close = Some (outer, After (extend_chain f k))
 after_step outer k _ = None
 
--- one byte further, after a chain and half an operator
+-- the state after one more byte, after a chain and half an operator
 abbrev pub half_step : List Front → Reading → Operator → Class → Option MachineState
 half_step outer k And Ampersand = Some (outer, Operand (record { chain = Some (k, And); nots = 0 }))
 half_step outer k Or Bar = Some (outer, Operand (record { chain = Some (k, Or); nots = 0 }))
 half_step outer k op _ = None
 
--- one byte further, from where a unary comes
+-- the state after one more byte, where a unary is expected
 abbrev pub operand_step : List Front → Front → Class → ℕ → Option MachineState
 operand_step outer f Space b = Some (outer, Operand f)
 operand_step outer f Bang b = Some (outer, Operand (record { chain = f.chain; nots = suc f.nots }))
@@ -84,7 +84,7 @@ operand_step outer f Digit b = Some (outer, Named f false (b ∷ []) 0)
 operand_step outer f Letter b = Some (outer, Named f false (b ∷ []) 0)
 operand_step outer f _ b = None
 
--- one byte further, from where an object comes
+-- the state after one more byte, where an object is expected
 abbrev pub asked_step : List Front → Front → Class → ℕ → Option MachineState
 asked_step outer f Space b = Some (outer, Asked f)
 asked_step outer f Sharp b = Some (outer, Number f true [])
@@ -92,14 +92,14 @@ asked_step outer f Digit b = Some (outer, Named f true (b ∷ []) 0)
 asked_step outer f Letter b = Some (outer, Named f true (b ∷ []) 0)
 asked_step outer f _ b = None
 
--- one byte further, after a sharp and digits
+-- the state after one more byte, after a sharp and digits
 abbrev pub number_step : List Front → Front → Bool → List ℕ → Class → ℕ → Option MachineState
 number_step outer f a ds Digit b =
     if nat_lt (length ds) MOST_DIGITS then Some (outer, Number f a (ds ++ b ∷ [])) else None
 number_step outer f a [] k b = None
 number_step outer f a (d ∷ ds) k b = after_step outer (extend_chain f (atom a (SHARP ∷ d ∷ ds))) k
 
--- one byte further, after a name
+-- the state after one more byte, after a name
 abbrev pub named_step : List Front → Front → Bool → List ℕ → ℕ → Class → ℕ → Option MachineState
 named_step outer f a text n Space b = Some (outer, Named f a text (suc n))
 named_step outer f a text n Digit b = Some (outer, Named f a (text ++ replicate n SPACE ++ b ∷ []) 0)
@@ -107,7 +107,7 @@ named_step outer f a text n Letter b = Some (outer, Named f a (text ++ replicate
 named_step outer f a text n Sharp b = Some (outer, Named f a (text ++ replicate n SPACE ++ b ∷ []) 0)
 named_step outer f a text n k b = after_step outer (extend_chain f (atom a text)) k
 
--- one byte further, from anywhere
+-- the state after one more byte, at any position
 abbrev pub step : List Front → Mode → Class → ℕ → Option MachineState
 step outer (Operand f) k b = operand_step outer f k b
 step outer (Asked f) k b = asked_step outer f k b
@@ -116,21 +116,21 @@ step outer (Named f a text n) k b = named_step outer f a text n k b
 step outer (After t) k b = after_step outer t k
 step outer (Half t op) k b = half_step outer t op k
 
--- one byte further, unless no key text went on so
+-- the state after one more byte, or None if no key text continues this way
 abbrev pub next : Option MachineState → ℕ → Option MachineState
 next None b = None
 next (Some s) b = step s.0 s.1 (class_of b) b
 
--- after these bytes
+-- the state after these bytes
 abbrev pub run : Option MachineState → List ℕ → Option MachineState
 run s [] = s
 run s (b ∷ bs) = run (next s b) bs
 
--- before the first byte
+-- the initial state
 abbrev pub start : Option MachineState
 start = Some ([], Operand bare)
 
--- the chain that stands, if the unary is whole
+-- the chain that ends here, if its last unary is complete
 abbrev pub chain_at_end : Mode → Option Reading
 chain_at_end (Operand f) = None
 chain_at_end (Asked f) = None

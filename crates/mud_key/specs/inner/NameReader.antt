@@ -1,5 +1,5 @@
--- What the reader of names does at each byte. Clauses of private parts cite it, and `names_in` in Finds.antt
--- computes by it; the law `laws::names` ties that to names texts.
+-- The steps of the reader of names. Private clauses cite it, and `names_in` in Finds.antt computes with it. The law
+-- `laws::names` ties that to names texts.
 use Rattle.std.specs.Prelude.{ℕ, ◌+◌, ◌-◌, List, [], ◌∷◌, ◌++◌, length, map, replicate, Option, Some, None}
 use Rattle.std.specs.Prelude.{string_bytes, nat_eq, nat_lt, if◌then◌else◌}
 use Rattle.mud_key.specs.declared.codes.TheConstants.{SPACE, SHARP, COMMA}
@@ -11,34 +11,34 @@ use Rattle.mud_key.specs.declared.texts.Texts.{Texts}
 use Rattle.mud_key.specs.Names.{texts_of}
 use Rattle.mud_key.specs.inner.Class.{class_of}
 
--- the names that are whole, the one that is read, and the spaces after it
+-- the state of the reader: the complete names, the name that is being read, and the number of spaces after it
 pub record Stand : Type 0 where
   pub list : List (List ℕ)
   pub text : List ℕ
   pub spaces : ℕ
 
--- where a reader stands
+-- the state of a reader
 abbrev pub stand_of : NameReader → Stand
 stand_of r = record { list = map string_bytes r.list.items; text = string_bytes r.draft.text; spaces = r.draft.spaces }
 
--- where a reader stands, if there is one
+-- the state of a reader, if there is one
 abbrev pub next_of : Option NameReader → Option Stand
 next_of None = None
 next_of (Some r) = Some (stand_of r)
 
--- the names that were found, if some were
+-- the names that were found, if any
 abbrev pub names_of : Option Texts → Option (List (List ℕ))
 names_of None = None
 names_of (Some texts) = Some (texts_of texts)
 
--- more than two spaces are counted as two
+-- after a space; more than two spaces count as two
 abbrev pub space_step : Stand → Stand
 space_step s =
     if nat_eq (length s.text) 0 then s
     else if nat_lt s.spaces 2 then record s { spaces = s.spaces + 1 }
     else s
 
--- after a byte that a name may have
+-- after a byte that a name may contain
 abbrev pub letter_step : Stand → ℕ → Option Stand
 letter_step s b =
     if nat_eq (length s.text) 0 then
@@ -66,7 +66,7 @@ name_step s Letter b = letter_step s b
 name_step s Foreign b = if nat_eq b COMMA then comma_step s else None
 name_step s _ b = None
 
--- after one more byte, unless no names text went on so
+-- after one more byte, or None if no names text continues this way
 abbrev pub name_next : Option Stand → ℕ → Option Stand
 name_next None b = None
 name_next (Some s) b = name_step s (class_of b) b
@@ -76,10 +76,10 @@ abbrev pub name_run : Option Stand → List ℕ → Option Stand
 name_run s [] = s
 name_run s (b ∷ bs) = name_run (name_next s b) bs
 
--- before the first byte
+-- the initial state
 abbrev pub name_start : Stand
 name_start = record { list = []; text = []; spaces = 0 }
 
--- the names, where the text may end here
+-- the names, if the text may end here
 abbrev pub names_at_end : Stand → Option (List (List ℕ))
 names_at_end s = if nat_eq (length s.text) 0 then None else Some (s.list ++ s.text ∷ [])

@@ -1,4 +1,4 @@
--- Trees as lists of tokens: two trees with the same tokens are the same.
+-- Trees as lists of tokens: equal token lists come from equal trees.
 use Rattle.std.specs.Prelude.{◌≡◌, ℕ, List, [], ◌∷◌, refl}
 use Rattle.std.proofs.Common.{◌∙◌, ap, ◌⊎◌, inl, inr, zero, suc}
 use Rattle.std.specs.Coded.{Coded, code_by, coded⊎, coded_list, coded_ℕ}
@@ -6,7 +6,7 @@ use Rattle.mud_key.specs.declared.operator.Operator.{Operator}
 use Rattle.mud_key.specs.declared.operator.Operator.TheVariants.{And, Or}
 use Rattle.mud_key.specs.Tree.{Tree, Has, Asks, Not, Join}
 
--- an object, an object that is asked, or the number of a sign
+-- an object, an object after `?`, or the number of a sign
 abbrev Token : Type 0 → Type 0
 Token O = O ⊎ (O ⊎ ℕ)
 

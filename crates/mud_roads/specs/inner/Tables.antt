@@ -1,18 +1,18 @@
--- What a traveller has in memory.
+-- The tables of a traveller in memory.
 use Rattle.std.specs.Prelude.{◌≡◌, ℕ, ◌-◌, ◌≤◌, Bool, false, List, [], ◌∷◌, length, take, drop, slice_index_or}
 use Rattle.mud_world.specs.State.{State, unlocked}
 use Rattle.mud_roads.specs.declared.label.Step.{Step}
 
--- the rows that end at these places, where the first begins at `from`; `steps` are those from there on
+-- the rows that end at these indices, the first beginning at `from`; `steps` are those from there on
 abbrev pub rows : ℕ → List ℕ → List Step → List (List Step)
 rows from [] steps = []
 rows from (end ∷ ends) steps = take (end - from) steps ∷ rows end ends (drop (end - from) steps)
 
--- each row ends where it begins or later, and the last one ends with the steps
+-- each row ends at or after its beginning, and the last one ends with the steps
 abbrev pub Fit : ℕ → List ℕ → List Step → Type 0
 Fit from [] steps = steps ≡ []
 Fit from (end ∷ ends) steps = (from ≤ end) × (end - from ≤ length steps) × Fit end ends (drop (end - from) steps)
 
--- the list says of each number whether the object is unlocked for p
+-- the list says for each number whether the object is unlocked for p
 abbrev pub Knows : State → ℕ → List Bool → Type 0
 Knows w p marks = (n : ℕ) → slice_index_or marks n false ≡ unlocked w p n

@@ -1,4 +1,4 @@
--- What a text is compared with, step by step.
+-- Matching, step by step.
 use Rattle.std.specs.Prelude.{ℕ, Bool, ◌&&◌, nat_lt, List, length, filter}
 use Rattle.std.specs.Prelude.{codes, Option, Some, None, ok_or, Result, Ok, Err, if◌then◌else◌}
 use Rattle.std.specs.Option.{option_map_or}
@@ -13,7 +13,7 @@ use Rattle.mud_rules.specs.declared.matching.Sort.{Sort}
 use Rattle.mud_rules.specs.declared.matching.Sort.TheVariants.{Rooms, Players}
 use Rattle.mud_rules.specs.Matches.{is_empty, is_like, sole, object_number}
 
--- what a text means whatever the candidates are
+-- the meaning of a text that does not depend on candidates
 abbrev pub direct_match : State → ℕ → List ℕ → Option (Result ℕ Match)
 direct_match w player text =
     if is_empty text then Some (Err Nothing)
@@ -22,7 +22,7 @@ direct_match w player text =
     else if str_eq_ignore_ascii_case text (codes "here") then Some (ok_or (place_of w player) NoSuch)
     else None)
 
--- a text is a whole name, or the beginning of a longer one
+-- a text is a whole name, or a proper prefix of one
 abbrev pub fits : Likeness → List ℕ → List ℕ → Bool
 fits Equal = is_like Equal
 fits Prefix = λ text name. nat_lt (length text) (length name) && is_like Prefix text name
@@ -31,11 +31,11 @@ fits Prefix = λ text name. nat_lt (length text) (length name) && is_like Prefix
 abbrev pub is_named : (List ℕ → Bool) → State → ℕ → Bool
 is_named test w n = has w n (λ r. list_any test r.names)
 
--- the one candidate with a name that fits
+-- the single candidate with a name that fits
 abbrev pub sole_fit : Likeness → State → List ℕ → List ℕ → Result ℕ Match
 sole_fit likeness w text candidates = sole (filter (is_named (fits likeness text) w) candidates)
 
--- what two lists of candidates give together
+-- the combined result of two lists of candidates
 abbrev pub together : Result ℕ Match → Result ℕ Match → Result ℕ Match
 together (Err NoSuch) second = second
 together first (Err NoSuch) = first

@@ -1,4 +1,4 @@
--- What is lawful, by its kind.
+-- Lawful verdicts, by their kind.
 use Rattle.std.specs.Prelude.{◌≡◌, ℕ, true, false}
 use Rattle.std.specs.Prelude.{Option, Some, IsTrue}
 use Rattle.std.specs.List.{All}
@@ -11,19 +11,19 @@ use Rattle.mud_rules.specs.declared.verdict.Query.{Query}
 use Rattle.mud_rules.specs.Party.{IsParty}
 use Rattle.mud_rules.specs.declared.verdict.Query.TheVariants as query
 
--- ---- what is true of all that a line comes to
+-- ---- facts about all verdicts
 
--- the player is the actor; of a new player the actor is the next number
+-- the player is the actor; the actor of a new player is the next number
 pub record IsActor (w : State) (player : Option ℕ) (e : Change) : Type 0 where
   pub old : is_arrival e.deed ≡ false → player ≡ Some e.actor
   pub new : is_arrival e.deed ≡ true → e.actor ≡ w.next
 
--- a room that is asked for is a room of the world, and those who are to meet are a party of its players
+-- a requested room is a room of the world, and a meeting is of a party of its players
 abbrev pub IsJourney : State → Journey → Type 0
 IsJourney w (Route to) = IsTrue (is_room w to)
 IsJourney w (Meet party) = All (λ p. IsTrue (is_player w p)) party × IsParty party
 
--- what is true of every question
+-- the facts about every question
 abbrev pub IsQuestion : State → Query → Type 0
 IsQuestion w (query.Journey journey) = IsJourney w journey
 IsQuestion w (query.Proof journey) = IsJourney w journey

@@ -1,4 +1,4 @@
--- The slots in memory, a list for each member, and what is done to them.
+-- The slots in memory, a list for each member, and their updates.
 use Rattle.std.specs.Prelude.{◌≡◌, ◌⊎◌, ℕ, ◌+◌, ◌*◌, ◌<◌, ◌≤◌, ◌^◌, Bool, true, ◌==◌, ◌&&◌, ◌||◌, nat_lt, if◌then◌else◌}
 use Rattle.std.specs.Prelude.{List, [], ◌∷◌, map, length, Option, None, Some, slice_index_or, slice_set}
 use Rattle.std.specs.Prelude.{replicate, sum_by, count_by}
@@ -29,7 +29,7 @@ waiting_label (Waiting l) = Some l
 waiting_label (Held l) = None
 waiting_label (Finished l) = None
 
--- the waiting rooms stand in order, and the counts are right
+-- the queue has exactly the waiting rooms, and the counts are correct
 pub record IsBoard (slots : List Slot) (order : List (Option Label)) (waiting held : ℕ) : Type 0 where
   pub few : length slots < 2 ^ 32
   pub whole : length order ≡ length slots
@@ -37,7 +37,7 @@ pub record IsBoard (slots : List Slot) (order : List (Option Label)) (waiting he
   pub waiting_count : waiting ≡ count_by is_waiting slots
   pub held_count : held ≡ count_by is_held slots
 
--- a lesser label, or the same and no greater room
+-- a lesser label, or an equal one and no greater room
 abbrev pub IsBefore : Label → ℕ → Label → ℕ → Type 0
 IsBefore a r b q =
     (a.cost ≤ b.cost) × (a.cost ≡ b.cost → (a.exits ≤ b.exits) × (a.exits ≡ b.exits → r ≤ q))
@@ -46,7 +46,7 @@ IsBefore a r b q =
 abbrev pub Below : Label → Label → Type 0
 Below a b = (a.cost ≤ b.cost) × (a.cost ≡ b.cost → a.exits < b.exits)
 
--- a lesser cost, or the same and fewer exits
+-- a lesser cost, or an equal cost and fewer exits
 abbrev pub is_below : Label → Label → Bool
 is_below a b = nat_lt a.cost b.cost || ((a.cost == b.cost) && nat_lt a.exits b.exits)
 
@@ -60,7 +60,7 @@ abbrev pub offer : Label → Step → List Slot → List Slot
 offer l s slots =
     if falls (after 1 l s) (label_at slots s.to) then slice_set slots s.to (Waiting (after 1 l s)) else slots
 
--- the slots after all these steps, one after the other
+-- the slots after all these steps, in order
 abbrev pub offers : Label → List Step → List Slot → List Slot
 offers l [] slots = slots
 offers l (s ∷ ss) slots = offers l ss (offer l s slots)
@@ -79,7 +79,7 @@ board_of boards member = slice_index_or boards member []
 abbrev pub slot_of : List (List Slot) → ℕ → ℕ → Slot
 slot_of boards member room = slot_at (board_of boards member) room
 
--- all rooms are unknown but his place, which waits
+-- all rooms are unknown except the member's place, which waits
 abbrev pub begun_at : ℕ → Knowledge → List Slot
 begun_at rooms t = slice_set (replicate rooms Unknown) t.place (Waiting start_label)
 
@@ -94,30 +94,30 @@ pub record IsBoardOf (roads : Roads) (from rooms : ℕ) (slots : List Slot) : Ty
   pub whole : length slots ≡ rooms
   pub faithful : IsTraced roads from (slot_at slots)
 
--- the task with the lesser label, of a task and what a later member has
+-- the task with the lesser label: the given one, or that of a later member
 abbrev pub lesser : Option Task → ℕ → Option (Label × ℕ) → Option Task
 lesser best member None = best
 lesser None member (Some found) = Some (record { member = member; room = found.1; label = found.0 })
 lesser (Some t) member (Some found) =
     if is_below found.0 t.label then Some (record { member = member; room = found.1; label = found.0 }) else Some t
 
--- ---- what is left to do
+-- ---- the remaining work
 
 -- the task's room waits or is held, with its label
 abbrev pub IsLeft : (ℕ → ℕ → Slot) → Task → Type 0
 IsLeft slots t = (slots t.member t.room ≡ Waiting t.label) ⊎ (slots t.member t.room ≡ Held t.label)
 
--- more than any label's
+-- a bound above every label
 abbrev pub top : ℕ
 top = MOST_COST * NUMBERS * NUMBERS
 
--- what is left to do at a room: less where its label has fallen, and less where it was taken or finished
+-- the remaining work at a room: less if its label has fallen, and less if it was taken or finished
 abbrev pub weight : Slot → ℕ
 weight Unknown = 3 * top
 weight (Waiting l) = 3 * (l.cost * NUMBERS + l.exits) + 2
 weight (Held l) = 3 * (l.cost * NUMBERS + l.exits) + 1
 weight (Finished l) = 3 * (l.cost * NUMBERS + l.exits)
 
--- what is left to do in all
+-- the total remaining work
 abbrev pub potential : List (List Slot) → ℕ
 potential boards = sum_by (sum_by weight) boards

@@ -1,4 +1,4 @@
--- Which task comes first, and the label of a member's room.
+-- The order of tasks, and the label of a member's room.
 use Rattle.std.specs.Prelude.{◌≡◌, ℕ, ◌≤◌, Option}
 use Rattle.mud_roads.specs.declared.label.Label.{Label}
 use Rattle.mud_roads.specs.Walks.{AtMost}
@@ -8,7 +8,7 @@ use Rattle.mud_search.specs.Slots.{labels_of}
 use Rattle.mud_search.specs.Tables.{Table}
 use Rattle.mud_search.specs.Rooms.{slot_in}
 
--- a lesser label, or the same and an earlier member, or the same and no greater room
+-- a lesser label, or an equal one and an earlier member, or equal ones and no greater room
 abbrev pub IsTaskBefore : Task → ℕ → ℕ → Label → Type 0
 IsTaskBefore a m r b = AtMost a.label b × (a.label ≡ b → (a.member ≤ m) × (a.member ≡ m → a.room ≤ r))
 

@@ -1,4 +1,4 @@
--- How the labels of a search were come by, from which no label is too great.
+-- The derivation of labels, by which no label is too great.
 use Rattle.std.specs.Prelude.{◌≡◌, ℕ, Bool, false, nat_eq, List, [], ◌∷◌, Option, Some, Contains}
 use Rattle.std.specs.List.{list_any}
 use Rattle.mud_roads.specs.declared.label.Label.{Label}
@@ -14,11 +14,11 @@ abbrev pub rooms_of_walk : ℕ → List Step → List ℕ
 rooms_of_walk from [] = from ∷ []
 rooms_of_walk from (s ∷ ss) = s.to ∷ rooms_of_walk from ss
 
--- the room is among them
+-- the list contains the room
 abbrev pub is_in : ℕ → List ℕ → Bool
 is_in q rs = list_any (nat_eq q) rs
 
--- a walk, read from its end, that visits no room twice, and no room at less than its label
+-- a walk, read from its end, that visits no room twice, and no room with less than its label
 abbrev pub Trail : Roads → (ℕ → Option Label) → ℕ → List Step → ℕ → Type 0
 Trail roads labels from [] to = from ≡ to
 Trail roads labels from (s ∷ ss) to =
@@ -29,8 +29,8 @@ Trail roads labels from (s ∷ ss) to =
 abbrev pub IsWalked : Roads → (ℕ → Option Label) → ℕ → ℕ → Label → Type 0
 IsWalked roads labels from to l = (ss : List Step) × Trail roads labels from ss to × (total 1 ss ≡ l)
 
--- every label is that of such a walk; the start is labelled 0; the steps out of a finished room lead to no greater
--- labels
+-- every label is that of such a walk; the start is labelled 0; a step out of a finished room leads to no greater label
+-- than the one after the step
 pub record IsTraced (roads : Roads) (from : ℕ) (slots : ℕ → Slot) : Type 0 where
   pub walked : (room : ℕ) (l : Label) → labels_of slots room ≡ Some l → IsWalked roads (labels_of slots) from room l
   pub start : labels_of slots from ≡ Some start_label

@@ -1,4 +1,4 @@
--- What a script writes for some bytes.
+-- The output of a script for some bytes.
 use Rattle.std.specs.Prelude.{◌≡◌, ℕ, List, [], ◌++◌, Option, take}
 use Rattle.std.specs.Io.KnownBytes.{Appends}
 use Rattle.mud_nvt.specs.Units.{Given, units}
@@ -7,7 +7,7 @@ use Rattle.mud_session.specs.State.{SessionState, DoorState}
 use Rattle.mud_session.specs.Session.{TakingIn, Play, text_of}
 use Rattle.mud_session.specs.Feeds.{Feeds}
 
--- the session was fed, and what it was to send was written
+-- the session was fed, and its output was written
 pub record Serves (takes_in : TakingIn) (earlier bytes : List ℕ) (old new : SessionState)
     (old_door new_door : DoorState) (held now_held : Option (List ℕ)) : Type 0 where
   pub said : List ℕ
@@ -16,7 +16,7 @@ pub record Serves (takes_in : TakingIn) (earlier bytes : List ℕ) (old new : Se
   pub out : new.out ≡ []
   pub capacity : new_door.capacity ≡ old_door.capacity
 
--- a front of what is sent for some of them was written
+-- a prefix of the output for some of them was written
 pub record ServesInPart (takes_in : TakingIn) (earlier bytes : List ℕ) (old_door : DoorState)
     (held now_held : Option (List ℕ)) : Type 0 where
   pub fresh : List Given

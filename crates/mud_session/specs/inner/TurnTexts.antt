@@ -9,17 +9,17 @@ use Rattle.mud_hall.specs.Replies.{Reply, Question, Failed}
 use Rattle.mud_session.specs.State.{SessionState, DoorState}
 use Rattle.mud_session.specs.Session.{TakingIn, Turn, Does, unit_of, answer_to, is_last, reply_line, wire_text}
 
--- the session with more to be sent
+-- the session with more output
 abbrev pub sends : SessionState → List ℕ → SessionState
 sends s text = record { terminal = s.terminal; has_ended = s.has_ended; out = s.out ++ text }
 
--- some of what the desk was told is to be sent
+-- some of the desk's notices are added to the output
 pub record Told (old new : SessionState) (old_desk new_desk : DeskState) : Type 0 where
   pub lines : List (List ℕ)
   pub tells : HandsOut old_desk lines new_desk
   pub is : new ≡ sends old (flat_map wire_text lines)
 
--- what is sent for a reply to a line that acts, also where memory is refused
+-- the output for a reply to a line that acts, also if an allocation fails
 abbrev pub sent_for : Reply → List ℕ
 sent_for reply = option_map_or wire_text (reply_line reply) (wire_text (codes "(out of memory)"))
 
@@ -29,7 +29,7 @@ IsSaid (Question v) = ⊥
 IsSaid (Failed DesksFull) = ⊥
 IsSaid other = Unit {0}
 
--- a unit has its turn, and what is sent in it is to be taken out
+-- a unit has its turn, and its output can be taken out
 pub record HasTurn (takes_in : TakingIn) (unit : Given) (old new : SessionState) (old_door new_door : DoorState)
     : Type 0 where
   pub turn : Turn

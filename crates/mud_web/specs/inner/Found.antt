@@ -1,9 +1,9 @@
--- What was found of a field.
+-- The result of looking for a field.
 use Rattle.std.specs.Prelude.{◌≡◌, ◌<◌, ℕ, List, [], ◌∷◌, length}
 use Rattle.mud_web.specs.declared.fields.Found.{Found}
 use Rattle.mud_web.specs.declared.fields.Found.TheVariants.{Nothing, One, Several}
 
--- these are the values of all fields with the name
+-- the result describes the values of all fields with the name
 abbrev pub IsFound : Found → List (List ℕ) → Type 0
 IsFound Nothing values = values ≡ []
 IsFound (One value) values = values ≡ value.now ∷ []

@@ -1,4 +1,4 @@
--- What a request to play is answered, by its fields.
+-- The answer to a request to play, from its fields.
 use Rattle.std.specs.Prelude.{◌≡◌, ◌≢◌, ℕ, true, List, [], ◌∷◌, codes}
 use Rattle.websocket.specs.Headers.{Fields}
 use Rattle.websocket.specs.Handshake.{accept_key_of}
@@ -9,7 +9,7 @@ use Rattle.mud_web.specs.declared.refusal.Refusal.TheVariants as Status
 use Rattle.mud_web.specs.Fields.{values}
 use Rattle.mud_web.specs.Upgrade.{Has13, AsksKey}
 
--- the one field Origin has this value
+-- the single field Origin has this value
 abbrev pub IsFrom : Fields → (origin : List ℕ) → Type 0
 IsFrom fields origin = values fields (codes "Origin") ≡ origin ∷ []
 
@@ -17,7 +17,7 @@ IsFrom fields origin = values fields (codes "Origin") ≡ origin ∷ []
 abbrev pub IsUpgrade : Fields → Besides → (key : List ℕ) → Type 0
 IsUpgrade fields asks key = (asks.is_get ≡ true) × (asks.version ≢ 0) × AsksKey fields key
 
--- it is answered so
+-- the answer to a request to play
 abbrev pub AnswersPlay : Fields → (origin : List ℕ) → Besides → Asked → Type 0
 AnswersPlay fields origin asks More = ⊥
 AnswersPlay fields origin asks Page = ⊥

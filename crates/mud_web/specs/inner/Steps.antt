@@ -14,7 +14,7 @@ use Rattle.mud_web.specs.declared.fault.Fault.TheVariants.{OutOfMemory, Over, En
 use Rattle.mud_web.specs.Close.{closes_once}
 use Rattle.mud_web.specs.Channel.{Standing, typed_by, text_typed, reply_by, replies}
 
--- a whole frame was taken from the front
+-- a whole frame was consumed
 pub record Took (old new : Standing) (typed_old typed_new replies_old replies_new : List ℕ) : Type 0 where
   pub count : ℕ
   pub effect : Effect
@@ -25,7 +25,7 @@ pub record Took (old new : Standing) (typed_old typed_new replies_old replies_ne
   pub types : typed_new ≡ typed_old ++ typed_by effect.message
   pub answers : replies_new ≡ replies_old ++ reply_by effect.reply
 
--- there is none yet
+-- there is no whole frame yet
 pub record Awaits (old new : Standing) (typed_old typed_new replies_old replies_new : List ℕ) : Type 0 where
   pub needed : ℕ
   pub reads : read_step old.conn old.unread ≡ Ok (Partial needed)
@@ -39,13 +39,13 @@ Steps old new typed_old typed_new replies_old replies_new true =
 Steps old new typed_old typed_new replies_old replies_new false =
     Awaits old new typed_old typed_new replies_old replies_new
 
--- the fault is not that the channel had ended
+-- the fault is not that the channel had already ended
 abbrev pub IsNoEnd : Fault → Type 0
 IsNoEnd Ended = ⊥
 IsNoEnd OutOfMemory = Unit {0}
 IsNoEnd (Over e) = Unit {0}
 
--- the frame at the front is refused with this error
+-- the first frame is refused with this error
 pub record Refuses (old new : Standing) (typed_old typed_new replies_old replies_new : List ℕ)
     (e : Error) : Type 0 where
   pub reads : read_step old.conn old.unread ≡ Err e
@@ -53,12 +53,12 @@ pub record Refuses (old new : Standing) (typed_old typed_new replies_old replies
   pub types : typed_new ≡ typed_old
   pub answers : replies_new ≡ replies_old
 
--- the text of the content, or none where it types nothing
+-- the text that the content types, or None if it types nothing
 abbrev pub IsTyped : Content → Option (List ℕ) → Type 0
 IsTyped content (Some t) = content ≡ text t
 IsTyped content None = typed_by (Some content) ≡ []
 
--- these frames lead from the one place to the other
+-- these frames lead from the connection to the channel
 pub record Reached (conn : Connection) (input : List ℕ) (channel : Standing)
     (typed_old typed_new replies_old replies_new : List ℕ) : Type 0 where
   pub done : List Effect
@@ -66,12 +66,12 @@ pub record Reached (conn : Connection) (input : List ℕ) (channel : Standing)
   pub types : typed_new ≡ typed_old ++ text_typed done
   pub answers : replies_new ≡ replies_old ++ replies done
 
--- what is sent in this state where reading ends with an error
+-- the bytes sent in this state when reading ends with an error
 abbrev pub closes_in : WebSocketState → Option Ending → List ℕ
 closes_in state None = []
 closes_in state (Some ending) = closes_once state ending
 
--- no close was sent but as a reply
+-- the server sent no close, except as a reply
 abbrev pub IsOpen : WebSocketState → Type 0
 IsOpen Active = Unit {0}
 IsOpen ClosedByPeer = Unit {0}

@@ -1,4 +1,4 @@
--- What the code's own values are seen as, cited only by private clauses.
+-- The models of the code's private values, which only private clauses cite.
 use Rattle.std.specs.Prelude.{ℕ, ◌+◌, List, map, length}
 use Rattle.std.specs.Cow.{cow_str_bytes}
 use Rattle.std.specs.Borrow.{Bor}
@@ -11,15 +11,15 @@ use Rattle.mud_words.specs.declared.prepositions.Spot.{Spot}
 use Rattle.mud_words.specs.Parse.{round}
 use Rattle.std.specs.List.{join_with_byte}
 
--- which preposition it is, and the places before and after its words
+-- the preposition, and the places of its first word and of the word after it
 abbrev pub spot_of : Found → Spot
 spot_of f = record { prep = f.phrase.prep; start = f.place; end = f.place + length f.phrase.words }
 
--- which preposition it is, and how many words it has
+-- the preposition, and the number of its words
 abbrev pub phrase_len : Phrase → Prep × ℕ
 phrase_len p = (p.prep, length p.words)
 
--- the texts that a row of the code's table points to
+-- the texts of a row of the code's table
 abbrev pub texts : List (Bor (List ℕ)) → List (List ℕ)
 texts phrase = map (λ t. t.now) phrase
 
@@ -38,10 +38,10 @@ line_with verb args rest o = record {
   rest = rest;
 }
 
--- the arguments parted at the preposition that counts
+-- the arguments split at the preposition that counts
 abbrev pub split : List ℕ → List (List ℕ) → List ℕ → Line
 split verb args rest = round verb args rest (preposition_of args)
 
--- the words, joined by one space
+-- the words joined by one space
 abbrev pub join_words : List (List ℕ) → List ℕ
 join_words ws = join_with_byte SPACE ws

@@ -1,4 +1,4 @@
--- Who meets a key, and what answers its questions.
+-- The bearer of a key, and the answers to its questions.
 use Rattle.std.specs.Prelude.{ℕ, Bool, false, nat_eq, slice_index_or}
 use Rattle.std.specs.List.{list_any}
 use Rattle.mud_world.specs.declared.locks.Bearer.{Bearer}
@@ -13,7 +13,7 @@ has_for w (Number c) a = within w a c
 has_for w (Holder held) a = list_any (nat_eq a) held.now
 has_for w (Marks t) a = slice_index_or t.now a false
 
--- ?o is true, where these objects are: the keys say it, or the answers do
+-- ?o is true, with these objects held: by the keys, or by the stored answers
 abbrev pub asked_for : State → (ℕ → Bool) → Asked → ℕ → Bool
 asked_for w held (Levels n) o = unlocked_in w n held o
 asked_for w held (Answers t) o = slice_index_or t.now o false

@@ -1,5 +1,4 @@
--- When an object can get another place or another key, be added, or be taken away: a legal change has what is asked
--- here.
+-- The premises for moving an object, giving it a key, adding it or removing it. A legal change satisfies them.
 use Rattle.std.specs.Prelude.{◌≡◌, ◌≢◌, ℕ, List, false, ◌<◌, [], ◌∷◌, Option, Some, None, IfSome, IsTrue}
 use Rattle.mud_key.specs.Tree.{Tree, IsKey}
 use Rattle.mud_world.specs.declared.limits.TheConstants.{NUMBERS}
@@ -12,14 +11,14 @@ use Rattle.mud_world.specs.Sound.{IsPlacedWell, IsSound}
 use Rattle.mud_world.specs.Legal.{with_new}
 use Rattle.mud_world.specs.inner.Fields.{with_key}
 
--- object t can go from place q to another place y: y is fit for it, and y isn't within t
+-- object t can move from place q to another place y: y is valid for it, and is not inside t
 pub record CanGo (w : State) (t q y : ℕ) : Type 0 where
   pub from : place_of w t ≡ Some q
   pub apart : q ≢ y
   pub fit : (r : Record) → record_at w t ≡ Some r → IsPlacedWell w (kind_at y r.kind)
   pub off : (k : ℕ) → follow w k y ≢ Some t
 
--- what is new: it has no key, its place is old, and it is well placed
+-- a new object has no key, its place exists before it, and it is well placed
 pub record IsNew (w w' : State) (r : Record) : Type 0 where
   pub keyless : r.key ≡ None
   pub place : (p : ℕ) → kind_place r.kind ≡ Some p → IsTrue (exists w p)
@@ -31,7 +30,7 @@ pub record CanAdd (w : State) (r : Record) : Type 0 where
   pub free : IsTrue (is_player_kind r.kind) → is_taken w w.next r.names ≡ false
   pub new : IsNew w (with_new w (r ∷ [])) r
 
--- rooms that an exit can join
+-- an exit can join these rooms
 pub record CanJoin (w : State) (a b : ℕ) : Type 0 where
   pub from : IsTrue (is_room w a)
   pub to : IsTrue (is_room w b)
@@ -48,21 +47,21 @@ pub record CanName (w : State) (n : ℕ) (names : List (List ℕ)) : Type 0 wher
   pub there : IsTrue (exists w n)
   pub free : IsTrue (is_player w n) → is_taken w n names ≡ false
 
--- what is of this kind lies elsewhere than in n, and has no end at n
+-- an object of this kind neither lies in n nor has n as an end
 abbrev pub IsOff : ℕ → Kind → Type 0
 IsOff n Room = Unit {0}
 IsOff n (Exit p) = (p.source ≢ n) × (p.destination ≢ n)
 IsOff n (Thing place) = place ≢ n
 IsOff n (Player place) = place ≢ n
 
--- object n exists, is neither a player nor the hall, and nothing lies in it or has an end at it
+-- object n exists, is neither a player nor the hall, contains nothing, and is not an end of an exit
 pub record CanRemove (w : State) (n : ℕ) : Type 0 where
   pub there : IsTrue (exists w n)
   pub no_player : is_player w n ≡ false
   pub other : n ≢ 0
   pub unused : (m : ℕ) (r : Record) → record_at w m ≡ Some r → IsOff n r.kind
 
--- the world is a sound one to which an object was added that is no player
+-- the world is a sound one to which an object that is not a player was added
 pub record IsGrown (w : State) : Type 0 where
   pub before : State
   pub object : Record

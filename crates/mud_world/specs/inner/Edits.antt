@@ -1,4 +1,4 @@
--- Single edits of the records and of what stands beside them: the edits of `Results` are what they come to.
+-- Single edits of the records and of the maps beside them. The edits of `Results` are composed of them.
 use Rattle.std.specs.Prelude.{◌≡◌, ℕ, Bool, false, not, ◌&&◌, List, [], nat_eq, Option, if◌then◌else◌}
 use Rattle.std.specs.List.{list_any}
 use Rattle.std.specs.Option.{option_map, option_map_or}
@@ -14,31 +14,31 @@ use Rattle.mud_world.specs.Kinds.{kind_at, kind_costing, kind_place, kind_passag
 use Rattle.mud_world.specs.State.{is_number}
 use Rattle.mud_world.specs.Sound.{IsRising}
 
--- the records stand by rising number
+-- the records are sorted by number
 abbrev pub StandRising : List (ℕ × Record) → Type 0
 StandRising es = (high : ℕ) × IsRising 0 es high
 
--- with f done at the record of n, where it is
+-- f applied to the record of n, if there is one
 abbrev pub edit : ℕ → (Record → Record) → List (ℕ × Record) → List (ℕ × Record)
 edit n f es = option_map_or (λ r. set_value (nat_eq n) es (f r)) (lookup (nat_eq n) es) es
 
--- with another place
+-- the record with another place
 abbrev pub placed_at : ℕ → Record → Record
 placed_at place r = record r { kind = kind_at place r.kind }
 
--- with another cost
+-- the record with another cost
 abbrev pub costing_at : ℕ → Record → Record
 costing_at cost r = record r { kind = kind_costing cost r.kind }
 
--- with other names
+-- the record with other names
 abbrev pub with_names : List (List ℕ) → Record → Record
 with_names names r = record r { names = names }
 
--- with another key, or none
+-- the record with another key, or none
 abbrev pub with_key : Option (Tree ℕ) → Record → Record
 with_key key r = record r { key = key }
 
--- the names by which an object of this kind is found: only players are
+-- the names by which an object of this kind is found: only players are found by name
 abbrev pub called_by : Kind → List (List ℕ) → List (List ℕ)
 called_by k names = if is_player_kind k then names else []
 
@@ -58,13 +58,13 @@ pub record IsInNone (n : ℕ) (links : Links) : Type 0 where
   pub leaving : (m : ℕ) → list_any (nat_eq n) (list_at links.leaving m) ≡ false
   pub arriving : (m : ℕ) → list_any (nat_eq n) (list_at links.arriving m) ≡ false
 
--- each list is the same
+-- all lists are equal
 pub record AreSameLinks (old new : Links) : Type 0 where
   pub contents : AreSame old.contents new.contents
   pub leaving : AreSame old.leaving new.leaving
   pub arriving : AreSame old.arriving new.arriving
 
--- of an object of this kind, the lists of its place, its source and its destination are changed by f, and no others
+-- f changes the lists of the object's place, source and destination, and no others
 pub record AreLinked (k : Kind) (f : List ℕ → List ℕ) (old new : Links) : Type 0 where
   pub contents : AreChanged (λ n. is_number n (kind_place k)) f old.contents new.contents
   pub leaving :
@@ -72,18 +72,19 @@ pub record AreLinked (k : Kind) (f : List ℕ → List ℕ) (old new : Links) : 
   pub arriving :
       AreChanged (λ n. is_number n (option_map (λ p. p.destination) (kind_passage k))) f old.arriving new.arriving
 
--- object t went from the list of q to that of y
+-- object t was moved from the list of q to that of y
 abbrev pub AreMoved : ℕ → ℕ → ℕ → List (ℕ × List ℕ) → List (ℕ × List ℕ) → Type 0
 AreMoved t q y old new =
     (n : ℕ) → list_at new n
     ≡ (let more = if nat_eq n y then insert t (list_at old n) else list_at old n in
     if nat_eq n q then without t more else more)
 
--- the key, if there is one, asks object n
+-- the key, if there is one, asks about object n
 abbrev pub asked_by : ℕ → Option (Tree ℕ) → Bool
 asked_by n key = option_map_or (λ k. list_any (nat_eq n) (asks_of k)) key false
 
--- the asker is in the lists of what its new key asks, and no more in those of what only its old one asked
+-- the asker is in the lists of the objects that its new key asks about, and no longer in those that only its old key
+-- asked about
 abbrev pub AreRekeyed : ℕ → Option (Tree ℕ) → Option (Tree ℕ) → List (ℕ × List ℕ) → List (ℕ × List ℕ) → Type 0
 AreRekeyed asker old new l l' =
     (n : ℕ) → list_at l' n

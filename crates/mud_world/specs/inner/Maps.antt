@@ -1,4 +1,4 @@
--- What the maps in memory are seen as.
+-- The model of the maps in memory.
 use Rattle.std.specs.Prelude.{◌≡◌, ℕ, Bool, List}
 use Rattle.std.specs.Option.{option_map}
 use Rattle.std.specs.List.{list_any}
@@ -10,7 +10,7 @@ use Rattle.mud_world.specs.declared.world.World.TheInside.{Inside}
 use Rattle.mud_world.specs.State.{State, has, is_number, kind_place, kind_passage, numbers_with}
 use Rattle.mud_world.specs.inner.Edits.{asked_by, names_to_find}
 
--- the records by number, without the lists beside them
+-- the records by number, without the lists derived from them
 abbrev pub state_of : Inside → State
 state_of a = record { objects = a.records.entries; next = a.next }
 
@@ -26,11 +26,11 @@ leaves n r = is_number n (option_map (λ p. p.source) (kind_passage r.kind))
 abbrev pub arrives : ℕ → Record → Bool
 arrives n r = is_number n (option_map (λ p. p.destination) (kind_passage r.kind))
 
--- the key of the record asks n
+-- the key of the record asks about n
 abbrev pub asks_it : ℕ → Record → Bool
 asks_it n r = asked_by n r.key
 
--- the list of each number n is that of the objects whose records pass the test of n
+-- the list of each number n has the objects whose records pass the test of n
 abbrev pub AreOf : (ℕ → Record → Bool) → List (ℕ × List ℕ) → State → Type 0
 AreOf test lists w = (n : ℕ) → list_at lists n ≡ numbers_with (test n) w
 
@@ -38,7 +38,7 @@ AreOf test lists w = (n : ℕ) → list_at lists n ≡ numbers_with (test n) w
 abbrev pub is_called : State → ℕ → List ℕ → Bool
 is_called w n name = has w n (λ r. list_any (str_eq_ignore_ascii_case name) (names_to_find r))
 
--- the owner of each text in lower case is the object that is found by this name
+-- the owner of each lower-case text is the object that this name finds
 abbrev pub AreNames : List (List ℕ × ℕ) → State → Type 0
 AreNames owners w =
     (name : List ℕ) (n : ℕ) → is_number n (owner_of owners (str_to_ascii_lowercase name)) ≡ is_called w n name

@@ -1,10 +1,10 @@
--- Where following places arrives.
+-- The end of following places.
 use Rattle.std.specs.Prelude.{ℕ, Bool, false, ◌&&◌, ◌||◌, nat_eq}
 use Rattle.std.proofs.Common.{zero, suc}
 use Rattle.std.specs.Option.{option_map_or}
 use Rattle.mud_world.specs.State.{State, place_of, is_thing, is_number}
 
--- whether one arrives after fewer than n things; no chain of places is longer than there are numbers
+-- true if following passes fewer than n things before it arrives; no chain of places is longer than there are numbers
 abbrev pub arrives : State → ℕ → ℕ → ℕ → Bool
 arrives w zero actor o = false
 arrives w (suc n) actor o =

@@ -1,4 +1,4 @@
--- A piece more is under way with the shorter rest; at its end all is read, and a piece that fails, fails all.
+-- One more piece leaves a shorter rest. At the end everything is read, and a piece that fails makes the whole fail.
 use Rattle.std.proofs.Common.{◌≡◌, ◌<◌, length, None, sym, arith}
 use Rattle.std.proofs.lemmas.Grind.{common_steps}
 use Rattle.mud_cert.specs.inner.Lines.{exit_text}

@@ -1,4 +1,4 @@
--- What was read goes on line by line, and ends at the whole text or at a bad line.
+-- Reading proceeds line by line, and ends at the whole text or at a bad line.
 use Rattle.std.proofs.Common.{◌≡◌, ◌<◌, ◌+◌, ◌∷◌, length, None, Some, ap, arith, length-append, ◌∙◌}
 use Rattle.std.proofs.lemmas.Grind.{common_steps}
 use Rattle.std.proofs.lemmas.List.{nil_from_length}

@@ -3,7 +3,7 @@ use Rattle.mud_chron.specs.Fronts.{Recovers}
 use Rattle.mud_compact.specs.inner.Broken.{IsFaulty}
 use Rattle.mud_compact.proofs.saving.front_of_broken.Given as goal
 
--- the front was found in the low one, and the high one can't be read
+-- the prefix was found in the lower one, and the higher one can't be read
 abbrev pub invariant-loop-low : goal.invariant-loop-low
 invariant-loop-low l = record {
   apart : l.low < l.high;

@@ -5,7 +5,7 @@ use Rattle.mud_compact.specs.Rows.{row}
 use Rattle.mud_compact.proofs.Rows.{text_at}
 use Rattle.mud_compact.proofs.showing.show.Given as goal
 
--- the rows so far and those that are left are all
+-- the rows so far and the remaining ones are all
 abbrev pub invariant-loop-number : goal.invariant-loop-number
 invariant-loop-number l =
     string_bytes l.out ++ flat_map (text_at row l.world.objects) (range_with_len l.number (l.world.next - l.number))

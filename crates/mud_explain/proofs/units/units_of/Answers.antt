@@ -3,7 +3,7 @@ use Rattle.mud_nvt.specs.UnitViews.{all_shown}
 use Rattle.mud_nvt.specs.Units.{Given}
 use Rattle.mud_explain.proofs.units.units_of.Goals as goal
 
--- no unit was there before, and no byte gives none
+-- there was no unit before, and no bytes complete none
 pub returns-in-Ok : goal.returns-in-Ok
 returns-in-Ok c =
     let grown = c.in-Ok.ensures.ok.grows [] c.new-terminal.ensures in

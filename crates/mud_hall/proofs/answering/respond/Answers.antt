@@ -5,7 +5,7 @@ use Rattle.mud_rules.specs.Table.{decision}
 use Rattle.mud_hall.proofs.Guests.{can-ask}
 use Rattle.mud_hall.proofs.answering.respond.Goals as goal
 
--- a guest asks about no journey
+-- a guest asks for no journey
 pub answer-requires-clause-asked : goal.answer-requires-clause-asked
 answer-requires-clause-asked g c q is =
     let line : Line = line_of c.args.said.now in

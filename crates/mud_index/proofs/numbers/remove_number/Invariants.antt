@@ -3,7 +3,7 @@ use Rattle.std.specs.List.Sorted.{IsNonDecreasing}
 use Rattle.mud_index.specs.Rising.{without}
 use Rattle.mud_index.proofs.numbers.remove_number.Given as goal
 
--- what is left rises, and has the same other numbers
+-- the remaining list is sorted, and has the same other numbers
 abbrev pub invariant-loop-place : goal.invariant-loop-place
 invariant-loop-place l = record {
   rising : IsNonDecreasing l.numbers.items;

@@ -6,7 +6,7 @@ use Rattle.mud_index.specs.inner.Views.{seen_of}
 use Rattle.mud_index.proofs.Texts.{AreLeft}
 use Rattle.mud_index.proofs.owners.put_each.Given as goal
 
--- what is left and what was done come to the whole, and there is room for what is left
+-- the remaining texts and those already done make up the whole list, and there is capacity for the remaining ones
 abbrev pub invariant-loop-text : goal.invariant-loop-text
 invariant-loop-text l = record {
   whole : AreLeft (items_of (into_iter_items l.text-iterator)) (items_of l.fn.texts.items) (Some l.owner)

@@ -3,7 +3,7 @@ use Rattle.std.specs.Prelude.{string_bytes}
 use Rattle.mud_chron.specs.Text.{entries_text}
 use Rattle.mud_journal.proofs.journal.push_entries.Given as goal
 
--- what is there and what is left are the whole
+-- the text so far and the rest make up the whole
 abbrev pub invariant-loop-entry : goal.invariant-loop-entry
 invariant-loop-entry l = record {
   next : l.next ≡ l.version + l.entry-index;

@@ -1,4 +1,4 @@
--- The stretches gone over are in the list, without their outer spaces.
+-- The list has the stretches so far, without their outer spaces.
 use Rattle.std.proofs.Common.{◌≡◌, map}
 use Rattle.std.specs.Prelude.{string_bytes}
 use Rattle.mud_key.specs.inner.NamesTexts.{without_outer_spaces}

@@ -1,4 +1,4 @@
--- The texts gone over are copied.
+-- The texts so far are copied.
 use Rattle.std.proofs.Common.{◌≡◌, take, map}
 use Rattle.std.specs.Prelude.{string_bytes}
 use Rattle.mud_key.proofs.texts.copies.Given as goal

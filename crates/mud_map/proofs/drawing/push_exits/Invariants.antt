@@ -4,7 +4,7 @@ use Rattle.mud_compact.proofs.Rows.{text_at}
 use Rattle.mud_map.specs.Map.{edge_of}
 use Rattle.mud_map.proofs.drawing.push_exits.Given as goal
 
--- what is there and what is left are all
+-- the text so far and the rest make up the whole
 abbrev pub invariant-loop-number : goal.invariant-loop-number
 invariant-loop-number l =
     l.out.items

@@ -12,7 +12,7 @@ use Rattle.mud_row.proofs.Lines.{entry_at-place}
 use Rattle.mud_row.proofs.history.replay_known.Goals.{In-Some}
 use Rattle.mud_row.proofs.history.replay_known.Goals as goal
 
--- the entry that was read stands at the next place
+-- the entry that was read is at the next place
 read_at : (c : In-Some) → slice_get c.args.pass.now.list c.loop-n.n ≡ Some c.in-Some.entry.now
 read_at c =
     sym (entry_at-place c.args.pass.now.list c.loop-n.n) ∙ sym (c.in-Some.ensures.entry

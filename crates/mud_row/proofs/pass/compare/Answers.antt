@@ -8,7 +8,7 @@ use Rattle.mud_row.specs.inner.Known.{names_of, known_front}
 use Rattle.mud_row.proofs.Notes.{front_bound, name_beside, known_at, stands_at, notes_agree, take_agree, set_same}
 use Rattle.mud_row.proofs.pass.compare.Goals as goal
 
--- the notes reach as far as their entries are known
+-- there are at least as many notes as known entries
 reaches : (k : ℕ) (now ns : List (Note Entry)) (i : ℕ) → now ≡ ns → length (known_front k ns) ≡ k → i < k
     → i < length now
 reaches k now ns i same all lt = omega (arith, ap length same, front_bound k ns)

@@ -4,7 +4,7 @@ use mathlib.Core.List.{IsPrefix}
 use Rattle.mud_row.specs.Known.{lines_after}
 use Rattle.mud_row.proofs.writing.push_text.Given as goal
 
--- what is there and the lines that are left are the first line and all lines
+-- the text so far and the remaining lines are the first line and all lines
 abbrev pub invariant-loop-n : goal.invariant-loop-n
 invariant-loop-n l = record {
   pass : l.pass ≡ l.fn.pass;

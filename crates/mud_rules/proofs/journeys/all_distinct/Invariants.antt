@@ -2,6 +2,6 @@ use Rattle.std.proofs.Common.{◌≡◌, drop}
 use Rattle.mud_rules.specs.Party.{all_distinct}
 use Rattle.mud_rules.proofs.journeys.all_distinct.Given as goal
 
--- what is left has the answer of the whole
+-- the rest gives the result of the whole
 abbrev pub invariant-loop-index : goal.invariant-loop-index
 invariant-loop-index l = all_distinct (drop l.index l.party) ≡ all_distinct l.party

@@ -2,6 +2,6 @@ use Rattle.std.proofs.Common.{◌≡◌, ◌++◌, drop}
 use Rattle.mud_rules.specs.Journeys.{members}
 use Rattle.mud_rules.proofs.journeys.members.Given as goal
 
--- those found so far, and those to be found, are all
+-- the players found so far, and those of the rest, are all
 abbrev pub invariant-loop-one : goal.invariant-loop-one
 invariant-loop-one l = l.party.items ++ members (drop l.one-index l.found) ≡ members l.found

@@ -4,7 +4,7 @@ use Rattle.mud_world.specs.State.{is_number}
 use Rattle.mud_rules.specs.inner.ObjectLists.{listed_after}
 use Rattle.mud_rules.proofs.listing.push_listed.Given as goal
 
--- what is listed so far, and those of the numbers left, are all
+-- the list so far, and the rest of the numbers, make up the whole
 abbrev pub invariant-loop-number : goal.invariant-loop-number
 invariant-loop-number l =
     string_bytes l.text

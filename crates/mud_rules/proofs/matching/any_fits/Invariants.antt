@@ -4,7 +4,7 @@ use Rattle.std.specs.List.{list_any}
 use Rattle.mud_rules.specs.inner.Matches.{fits}
 use Rattle.mud_rules.proofs.matching.any_fits.Given as goal
 
--- what is left of the names has the answer of all of them
+-- the rest of the names gives the result of all of them
 abbrev pub invariant-loop-name : goal.invariant-loop-name
 invariant-loop-name l =
     list_any (λ name. fits l.likeness l.text (string_bytes name)) (drop l.name-index l.names)

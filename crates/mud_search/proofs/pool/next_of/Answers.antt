@@ -1,4 +1,4 @@
--- A room that is next is the one that was taken; neither a rest nor the end is one.
+-- The next room is the one that was taken; a rest or the end is not a room.
 use Rattle.std.proofs.Common.{◌≡◌, ◌<◌, length, subst}
 use Rattle.mud_search.specs.declared.task.Task.{Task}
 use Rattle.mud_search.specs.declared.pool.Next.TheVariants.{Room, Rest, End}

@@ -18,7 +18,7 @@ loop-n-init g c = record {
       (c.in_ok-text.ensures.ok ∙ c.first_line.ensures);
 }
 
--- the line of this entry stands in the piece
+-- the piece has the line of this entry
 line_stands : (g : Over) (c : In_ok-write_line g)
     → IsOnWay c.args.out.now.holds c.loop-n.out.holds (written_text c.args.history.now)
     (string_bytes c.write_line.new.out) (left (c.loop-n.n + 1) c.args.history.now)
@@ -60,7 +60,7 @@ pub returns-in_err-write_end-clause-front : goal.returns-in_err-write_end-clause
 returns-in_err-write_end-clause-front g c =
     any_err c.from_residual-in_err-write_end.result (stopped _ _ _ _ _ c.loop-n.invariant.way)
 
--- the last line stands in the piece
+-- the piece has the last line
 end_stands : (g : Over) (c : In_ok-write_end g)
     → IsOnWay c.args.out.now.holds c.loop-n.out.holds (written_text c.args.history.now)
     (string_bytes c.write_end.new.out) []

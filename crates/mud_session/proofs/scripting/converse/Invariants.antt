@@ -2,7 +2,7 @@ use Rattle.std.proofs.Common.{◌≡◌}
 use Rattle.mud_session.proofs.ScriptLemmas.{Reached}
 use Rattle.mud_session.proofs.scripting.converse.Given as goal
 
--- the bytes so far are read, and what is sent for them is written
+-- the bytes so far are read, and their output is written
 abbrev pub invariant-loop-reads : goal.invariant-loop-reads
 invariant-loop-reads g l = record {
   reads : l.source.reads ≡ l._reads;

@@ -7,7 +7,7 @@ use Rattle.mud_session.specs.inner.Wire.{on_wire}
 use Rattle.mud_session.proofs.Widening.{line-more, line-wide}
 use Rattle.mud_session.proofs.wiring.push_on_wire.Goals as goal
 
--- what was appended, if memory was not refused
+-- the text that was appended, if no allocation failed
 appended : {A E : Type 0} (r : Result A E) (new out rest all : List ℕ)
     → new ≡ (if is_ok r then out ++ rest else out) → out ++ rest ≡ all → OnOk r (new ≡ all)
 appended (Ok x) new out rest all is whole = is ∙ whole

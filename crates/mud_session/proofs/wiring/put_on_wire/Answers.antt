@@ -7,7 +7,7 @@ use Rattle.mud_session.proofs.Widening.{begins_so, wide-longer}
 use Rattle.mud_session.proofs.wiring.put_on_wire.Goals.{After-deref_mut}
 use Rattle.mud_session.proofs.wiring.put_on_wire.Goals as goal
 
--- the memory is as long as the text on the wire and what stands in front
+-- the buffer is as long as the prefix and the encoded text
 whole_length : (c : After-deref_mut)
     → c.in-Some.len ≡ length (flat_map on_wire c.args.text.items) + length c.args.front.now
 whole_length c =

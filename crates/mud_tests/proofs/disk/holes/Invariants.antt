@@ -2,7 +2,7 @@ use Rattle.std.proofs.Common.{◌≡◌, length}
 use Rattle.mud_journal.specs.Disk.{AreThere}
 use Rattle.mud_tests.proofs.disk.holes.Given as goal
 
--- what is left at the first places
+-- the bytes left at the first places
 abbrev pub invariant-loop-at : goal.invariant-loop-at
 invariant-loop-at l = record {
   there : AreThere l.written l.bytes.items;

@@ -4,7 +4,7 @@ use Rattle.mud_words.specs.Words.{plain_words}
 use Rattle.mud_words.proofs.ReadingLemmas.{Trimmed}
 use Rattle.mud_words.proofs.cut.push_words.Given as goal
 
--- the words so far and those of what is left, which begins with no space
+-- the words so far, and the words of the remaining text, which does not begin with a space
 abbrev pub invariant-loop-text : goal.invariant-loop-text
 invariant-loop-text l = record {
   words : map cow_str_bytes l.words.items ++ plain_words l.text

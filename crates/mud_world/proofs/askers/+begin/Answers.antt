@@ -7,7 +7,7 @@ use Rattle.mud_world.proofs.Asking.{asks_node, asks-either, changed-both, betwee
 use Rattle.mud_world.proofs.askers.+begin.Goals.{After-deref-in-Join-2}
 use Rattle.mud_world.proofs.askers.+begin.Goals as goal
 
--- the key of the whole asks what its two keys ask
+-- the whole key asks the questions of its two parts
 parts_ask : (t : ℕ) (c : After-deref-in-Join-2 t) (n : ℕ)
     → asks_node c.args.node.now n ≡ (asks_node c.deref-in-Join.result.now n || asks_node c.deref-in-Join-2.result.now n)
 parts_ask t c =

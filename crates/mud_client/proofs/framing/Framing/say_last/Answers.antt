@@ -9,7 +9,7 @@ use Rattle.mud_client.specs.declared.framing.Framing.TheVariants.{Web}
 use Rattle.mud_client.specs.Framed.{last_words}
 use Rattle.mud_client.proofs.framing.Framing.say_last.Goals as goal
 
--- after a close nothing is sent
+-- nothing is sent after a close
 closed_silent : {F : Type 0} (r : Result (Unit {0}) F) (old new line : List ℕ) → OnOk r (new ≡ old ++ frames_of line)
     → OnErr r (new ≡ old) → (line ≢ [] → IsErr r) → new ≡ old
 closed_silent (Err e) old new line ok err silent = err

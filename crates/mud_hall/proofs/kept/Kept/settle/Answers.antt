@@ -11,15 +11,15 @@ use Rattle.mud_hall.specs.inner.CheckFaults.{IsCheckFault}
 use Rattle.mud_hall.proofs.Checks.{fault_of}
 use Rattle.mud_hall.proofs.kept.Kept.settle.Goals as goal
 
--- what was loaded is not longer than the whole
+-- the loaded entries are not longer than the whole
 not_longer : (n : ℕ) (loaded h : List Entry) → n ≡ length loaded → IsPrefix loaded h → n ≤ length h
 not_longer n loaded h count (more, is) = omega (arith, count, ap length is, length-append loaded more)
 
--- as many were made as the whole is longer
+-- the number of entries made is the difference of the lengths
 made_count : (n : ℕ) (loaded h : List Entry) → n ≡ length loaded → length h - n ≡ length (entries_made loaded h)
 made_count n loaded h count = omega (arith, count, length-drop (length loaded) h)
 
--- what is checked is what was made, of the desks as they were handed in
+-- the entries checked are the entries made, of the desks as they were handed in
 carried : (P : List View → ℕ → List Entry → Type 0) (loaded h new : List Entry) (n : ℕ) (ds was : List View)
     → new ≡ drop n h → n ≡ length loaded → ds ≡ was → P ds (n + 1) new
     → P was (length loaded + 1) (entries_made loaded h)

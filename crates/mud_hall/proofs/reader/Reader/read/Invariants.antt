@@ -1,7 +1,7 @@
 use Rattle.std.proofs.Common.{◌≡◌, ◌++◌}
 use Rattle.mud_hall.proofs.reader.Reader.read.Given as goal
 
--- what is read now stands after what was read before
+-- the entries read now follow those read before
 abbrev pub invariant-loop : goal.invariant-loop
 invariant-loop g l = record {
   row : l.self-inside.pass.row ≡ g.J.HallName.cells;

@@ -4,7 +4,7 @@ use Rattle.mud_index.specs.Owners.{owner_of}
 use Rattle.mud_index.specs.inner.Views.{seen_of}
 use Rattle.mud_index.proofs.owners.Owners.find.Given as goal
 
--- what is left has the answer of the whole
+-- the remaining entries give the result of the whole map
 abbrev pub invariant-loop-name : goal.invariant-loop-name
 invariant-loop-name l =
     owner_of l.self (map to_ascii_lowercase l.text)

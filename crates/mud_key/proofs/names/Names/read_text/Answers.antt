@@ -6,7 +6,7 @@ use Rattle.mud_key.proofs.NamesSound.{names_sound}
 use Rattle.mud_key.proofs.NamesTaken.{refused_names, unsettled_names, name_run_more, name_run_end, are_names}
 use Rattle.mud_key.proofs.names.Names.read_text.Goals as goal
 
--- ---- a byte is refused
+-- ---- a byte is rejected
 
 pub returns-in-None : goal.returns-in-None
 returns-in-None c = record {
@@ -22,7 +22,7 @@ loop-byte-preserved c =
     (stand_of c.loop-byte.reader) _ c.loop-byte-test.true c.loop-byte.invariant
     (ap next_of (sym c.in-Some.is) ∙ c.in_ok-next.ensures)
 
--- ---- the names are whole
+-- ---- the names are complete
 
 taken : (c : goal.In-Some-2) → IsNamesText c.as_bytes-byte-items.result.now (texts_of c.in-Some-2.texts)
 taken c =
@@ -40,7 +40,7 @@ returns-in-Some-2 c = record {
       (taken c);
 }
 
--- ---- no name stands at the end
+-- ---- the text does not end with a name
 
 pub returns-in-None-2 : goal.returns-in-None-2
 returns-in-None-2 c = record {

@@ -1,4 +1,4 @@
--- The reader stands after the bytes gone over.
+-- The reader is in the state after the bytes read so far.
 use Rattle.std.proofs.Common.{◌≡◌, Some, take}
 use Rattle.mud_key.specs.inner.NameReader.{name_run, name_start, stand_of}
 use Rattle.mud_key.proofs.names.Names.read_text.Given as goal

@@ -5,7 +5,7 @@ use Rattle.mud_roads.specs.inner.Tables.{rows}
 use Rattle.mud_roads.proofs.Rows.{rows-count, row-within, row-part, begin}
 use Rattle.mud_roads.proofs.table.Table.row.Goals as goal
 
--- where the row begins and ends
+-- the indices at which the row begins and ends
 places : (ends read : List ℕ) (number begins ends_at : ℕ) → read ≡ ends → begins ≡ get_or (0 ∷ read) number 0
     → number < length ends → ends_at ≡ get_or ends number ends_at
     → (begins ≡ begin 0 ends number) × (ends_at ≡ get_or ends number 0)

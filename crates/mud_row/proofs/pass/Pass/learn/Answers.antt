@@ -7,14 +7,14 @@ pub take_over-requires-clause-within : goal.take_over-requires-clause-within
 take_over-requires-clause-within c =
     omega (arith, front_bound c.other.inside.count c.other.inside.notes.items, c.other.invariant.1)
 
--- what the copied notes know
+-- the entries that the copied notes know
 taken : (c : goal.After-self-1)
     → known_front c.other.inside.count c.take_over.new.mine.items
     ≡ known_front c.other.inside.count c.other.inside.notes.items
 taken c =
     front-take c.other.inside.count c.take_over.new.mine.items c.other.inside.notes.items c.take_over.ensures.agree
 
--- that is all that the other knew
+-- these are all entries that the other pass knew
 taken_all : (c : goal.After-self-1)
     → known_front c.other.inside.count c.take_over.new.mine.items ≡ c.args.other.now.list
 taken_all c = taken c ∙ (ap (λ k. k.list) c.other.view_is ∙ ap (λ k. k.list) c.agree.ensures.other_same)

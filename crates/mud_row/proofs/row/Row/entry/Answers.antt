@@ -6,7 +6,7 @@ use Rattle.mud_row.proofs.Notes.{entry_at_place, found_place}
 use Rattle.mud_row.proofs.row.Row.entry.Goals.{After-self}
 use Rattle.mud_row.proofs.row.Row.entry.Goals as goal
 
--- the notes that the pass has here lie beside the cells
+-- the notes of the pass match the cells
 lies_beside : (c : After-self)
     → IsBeside c.self.inside.cells.items c.pass.inside.notes.items c.pass.inside.count c.args.pass.now c.args.self.now
 lies_beside c = beside _ _ _ _ _ c.pass.view_is c.requires c.self.view_is c.pass.invariant
@@ -25,7 +25,7 @@ get_as-requires c =
     name_at c.self.inside.cells.items _ (c.args.n - 1) _ _ b.names (omega arith) c.index.ensures
     c.index_mut.ensures.value
 
--- the note at the place knows the entry of that number
+-- the note at the place knows the entry with that number
 noted_at : (c : goal.After-pass-1)
     → slice_get (known_front c.pass.inside.count c.pass.inside.notes.items) (c.args.n - 1)
     ≡ c.index_mut.result.now.known

@@ -1,7 +1,7 @@
 use Rattle.std.proofs.Common.{◌≡◌, ◌≤◌, ◌++◌, length}
 use Rattle.mud_row.proofs.row.Row.fill.Given as goal
 
--- what is known is lengthened by the entries so far
+-- the known entries are extended by the entries so far
 abbrev pub invariant-loop-entry : goal.invariant-loop-entry
 invariant-loop-entry l = record {
   row : l.pass.row ≡ l.fn.pass.row;

@@ -4,7 +4,7 @@ use Rattle.mud_row.proofs.Notes.{counted-more}
 use Rattle.mud_row.proofs.row.Row.next.Goals.{After-len}
 use Rattle.mud_row.proofs.row.Row.next.Goals as goal
 
--- the notes that the pass has here lie beside the cells
+-- the notes of the pass match the cells
 lies_beside : (c : After-len)
     → IsBeside c.self.inside.cells.items c.pass.inside.notes.items c.pass.inside.count c.args.pass.now c.args.self.now
 lies_beside c = beside _ _ _ _ _ c.pass.view_is c.requires c.self.view_is c.pass.invariant

@@ -1,4 +1,4 @@
--- The waiting rooms stay in order, and the counts stay right, where one slot gets another.
+-- The queue and the counts stay correct when a slot changes.
 use Rattle.std.proofs.Common.{◌≡◌, ℕ, ◌+◌, ◌-◌, ◌<◌, ◌≤◌, Bool, true, false, cond, List, Option, None, length, get_or}
 use Rattle.std.proofs.Common.{set, inl, inr, refl, sym, ◌∙◌, ap, arith, get_or-set_same, get_or-set_other, length-set}
 use Rattle.std.specs.Prelude.{count_by}
@@ -17,7 +17,7 @@ byte-is : (b : Bool) → bool_byte b ≡ cond b 1 0
 byte-is true = refl
 byte-is false = refl
 
--- one of a list that passes is one of those counted
+-- an element that passes is counted
 one-counted : (p : Slot → Bool) (slots : List Slot) (room : ℕ) (old : Slot) (n before : ℕ) → room < length slots
     → old ≡ slot_at slots room → n ≡ count_by p slots → before ≡ bool_byte (p old) → before ≤ n
 one-counted p slots room old n before within is count was =
@@ -26,7 +26,7 @@ one-counted p slots room old n before within is count was =
     let most : f (slot_at slots room) ≤ count_by p slots = get_or-le-sum_by f slots room Unknown within in
     omega arith
 
--- how many pass after the change
+-- the count after the change
 counted : (p : Slot → Bool) (slots : List Slot) (room : ℕ) (old v : Slot) (n before then : ℕ) → room < length slots
     → old ≡ slot_at slots room → n ≡ count_by p slots → before ≡ bool_byte (p old) → then ≡ bool_byte (p v)
     → n - before + then ≡ count_by p (set slots room v)

@@ -13,7 +13,7 @@ use Rattle.mud_search.proofs.frontier.Frontier.take.Given.{Over}
 use Rattle.mud_search.proofs.frontier.Frontier.take.Goals.{In_ok-task}
 use Rattle.mud_search.proofs.frontier.Frontier.take.Goals as goal
 
--- the room that is taken waits, and is a member's
+-- the taken room waits, and belongs to a member
 taken_waits : (g : Over) (c : In_ok-task g)
     → (slot_of c.self.inside.boards.items c.in_ok-task.task.member c.in_ok-task.task.room
     ≡ Waiting c.in_ok-task.task.label) × (c.in_ok-task.task.member < length c.self.inside.boards.items)

@@ -4,7 +4,7 @@ use Rattle.std.proofs.lemmas.Result.{on_err_weaker}
 use Rattle.mud_world.proofs.Asking.{inserted-out}
 use Rattle.mud_world.proofs.links.Links.link.Goals as goal
 
--- the exit goes out of the list that it went into
+-- the exit is removed from the list into which it was inserted
 pub returns-then-is_err-clause-err : goal.returns-then-is_err-clause-err
 returns-then-is_err-clause-err c =
     let source = c.in-Exit.passage.source in

@@ -6,7 +6,7 @@ use Rattle.mud_world.proofs.world.World.+climbs.Given as goal
 abbrev pub decreases-climbs : goal.decreases-climbs
 decreases-climbs l = l.count
 
--- what is left has the answer of the whole
+-- the rest gives the result of the whole
 abbrev pub invariant-loop-asker : goal.invariant-loop-asker
 invariant-loop-asker l =
     list_any (climbs l.self (l.count - 1)) l.asker-items

@@ -3,7 +3,7 @@ use Rattle.std.specs.Prelude.{string_bytes}
 use Rattle.mud_world.specs.State.{is_taken}
 use Rattle.mud_world.proofs.world.World.is_taken.Given as goal
 
--- what is left has the answer of the whole
+-- the rest gives the result of the whole
 abbrev pub invariant-loop-name : goal.invariant-loop-name
 invariant-loop-name l =
     is_taken l.self l.number l.names ≡ is_taken l.self l.number (map string_bytes (drop l.name-index l.name-items))

@@ -7,7 +7,7 @@ use Rattle.mud_world.specs.Truth.{key_true}
 use Rattle.mud_world.specs.inner.Answers.{answers_with}
 use Rattle.mud_world.proofs.world.World.judge_more.Given as goal
 
--- what is left is written over what there is
+-- the remaining results are rewritten over the present ones
 abbrev pub invariant-loop-object : goal.invariant-loop-object
 invariant-loop-object l =
     let new =

@@ -4,7 +4,7 @@ use Rattle.std.specs.List.{list_any}
 use Rattle.mud_world.specs.State.{has}
 use Rattle.mud_world.proofs.world.World.judge_plain.Given as goal
 
--- those passed have their answers, and each whose answer is no is listed
+-- the objects so far have their results, and each with a key is listed
 abbrev pub invariant-loop-object : goal.invariant-loop-object
 invariant-loop-object l =
     (length l.answers.items ≡ l.object)

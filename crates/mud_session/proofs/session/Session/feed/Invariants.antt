@@ -1,9 +1,9 @@
 use Rattle.std.proofs.Common.{take}
 use Rattle.mud_nvt.specs.UnitViews.{all_shown}
 use Rattle.mud_session.proofs.Taking.{SoFar}
-use Rattle.mud_session.proofs.session.Session.take_in.Given as goal
+use Rattle.mud_session.proofs.session.Session.feed.Given as goal
 
--- the units gone over had their turns
+-- the units so far had their turns
 abbrev pub invariant-loop-unit : goal.invariant-loop-unit
 invariant-loop-unit g l =
     SoFar g.D.Door.takes_in (all_shown (take l.unit-index l.unit-items)) l.initial.self l.self

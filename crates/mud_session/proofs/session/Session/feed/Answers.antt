@@ -4,20 +4,19 @@ use Rattle.mud_nvt.specs.UnitViews.{all_shown}
 use Rattle.mud_nvt.specs.History.{StandsAfter}
 use Rattle.mud_session.specs.State.{SessionState}
 use Rattle.mud_session.proofs.Taking.{SoFar-none, SoFar-more, Feeds-from}
-use Rattle.mud_session.proofs.session.Session.take_in.Goals as goal
+use Rattle.mud_session.proofs.session.Session.feed.Goals as goal
 
 pub loop-unit-init : goal.loop-unit-init
-loop-unit-init g c =
-    SoFar-none g.D.Door.takes_in _ _ (ap (λ (s : SessionState). s.has_ended) c.self.view_is ∙ c.requires)
+loop-unit-init g c = SoFar-none g.D.Door.takes_in _ _ c.if-self.false
 
 pub loop-unit-preserved : goal.loop-unit-preserved
 loop-unit-preserved g c =
     SoFar-more g.D.Door.takes_in c.deref-unit-items.result.now c.loop-unit.unit-index c.unit-item.result
     _ _ _ _ _ _ (omega arith) c.unit-item.is c.loop-unit.invariant c.answer.ensures.capacity
-    c.answer.ensures.over c.in_ok-answer.ensures.turn
+    c.answer.ensures.over c.in-Ok-answer.ensures.turn
 
-pub returns-clause-feeds : goal.returns-clause-feeds
-returns-clause-feeds g c = λ earlier stands.
+pub returns-clause-ok : goal.returns-clause-ok
+returns-clause-ok g c = λ earlier stands.
     let took = c.in-Ok.ensures.ok in
     let begun = subst (λ (s : SessionState). StandsAfter s.terminal earlier) (sym c.self.view_is) stands in
     let grows = took.grows earlier begun in
@@ -28,5 +27,5 @@ returns-clause-feeds g c = λ earlier stands.
     (ap all_shown (take_all c.loop-unit.unit-index c.deref-unit-items.result.now (omega arith)
     ∙ c.deref-unit-items.ensures.value) ∙ grows.1
     ∙ ap (λ l. all_shown l ++ grows.0) c.new-units.ensures.items)
-    c.requires
+    (sym (ap (λ (s : SessionState). s.has_ended) c.self.view_is) ∙ c.if-self.false)
     (ap (λ (s : SessionState). s.out) c.self.view_is) c.loop-unit.invariant

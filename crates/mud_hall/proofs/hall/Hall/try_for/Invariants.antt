@@ -1,5 +1,0 @@
-use Rattle.mud_hall.specs.Desk.{TakesIn}
-use Rattle.mud_hall.proofs.hall.Hall.try_for.Given as goal
-
-abbrev pub invariant-loop : goal.invariant-loop
-invariant-loop g l = TakesIn l.fn.desk.state l.desk.state

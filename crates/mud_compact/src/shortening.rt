@@ -6,11 +6,27 @@ ghost use Rattle.mud_compact.specs.Shorter.{IsShortened};
 ghost use Rattle.mud_compact.specs.inner.ShorterHistory.{LeadsTo, IsShorter};
 
 use crate::comparing::same_worlds;
-use crate::talk::{has_talk, without_talk};
+use crate::talk::{count_work, has_talk, without_talk};
 use mud_chron::{ChronFault, Entry, replay};
-use mud_compact_plan::{Gone, build_again};
+use mud_compact_plan::build_again;
 use mud_world::World;
 use std::alloc::{AllocError, Global};
+
+// Up to this many changes, any shorter history is taken. A longer history must save enough, so that the search ends
+// soon.
+const FEW: usize = 1_024;
+
+// The part of a long history's changes that has to be saved, as a divisor.
+const WORTH: usize = 64;
+
+// Returns how many changes are too many to replace this many.
+fn too_many(kept: usize) -> usize {
+    if kept <= FEW {
+        kept
+    } else {
+        kept - kept / WORTH
+    }
+}
 
 // Returns whether these entries are legal and lead to this world.
 fn leads_to(alloc: Global, entries: &[Entry], world: &World) -> Result<bool, AllocError>
@@ -41,22 +57,6 @@ fn shorter_of(
     Ok(Some(found))
 }
 
-// Returns a history of this world that is shorter than these entries, if rebuilding it without changes of this kind
-// whose objects are gone gives one.
-fn shorter_without(
-    alloc: Global,
-    gone: Gone,
-    entries: &[Entry],
-    world: &World,
-) -> Result<Option<Vec<Entry>>, AllocError>
-    ensures { IfOk result (λ found. IfSome found (λ s. IsShorter entries.now world.now s.items)) }
-{
-    match build_again(alloc, gone, entries, world)? {
-        Some(built) => shorter_of(alloc, built, entries, world),
-        None => Ok(None),
-    }
-}
-
 // Returns a history of this world that is shorter than these entries, if one is found.
 fn shorter(
     alloc: Global,
@@ -65,10 +65,11 @@ fn shorter(
 ) -> Result<Option<Vec<Entry>>, AllocError>
     ensures { IfOk result (λ found. IfSome found (λ s. IsShorter entries.now world.now s.items)) }
 {
-    if let Some(found) = shorter_without(alloc, Gone::All, entries, world)? {
-        return Ok(Some(found));
+    let most = too_many(count_work(entries));
+    match build_again(alloc, entries, world, most)? {
+        Some(built) => shorter_of(alloc, built, entries, world),
+        None => Ok(None),
     }
-    shorter_without(alloc, Gone::Things, entries, world)
 }
 
 /// Returns a history of the same world that is no longer, and has no talk (docs/KEEPING.md, "Shorten"). It repeats as
@@ -79,7 +80,9 @@ pub fn shorten(alloc: Global, entries: &[Entry]) -> Result<Vec<Entry>, ChronFaul
     ensures err { IfErr result (HasIllegal entries.now) }
 {
     let world = replay(alloc, entries)?;
-    let mut kept = without_talk(alloc, entries)?;
+    let Some(mut kept) = shorter(alloc, entries, &world)? else {
+        return Ok(without_talk(alloc, entries)?);
+    };
     for _ in 0..kept.len() {
         match shorter(alloc, &kept, &world)? {
             Some(found) => kept = found,

@@ -34,6 +34,11 @@ pub(crate) fn has_talk(entries: &[Entry]) -> bool
     false
 }
 
+// Returns how many entries are not talk.
+pub(crate) fn count_work(entries: &[Entry]) -> usize {
+    entries.iter().filter(|entry| !is_talk_entry(entry)).count()
+}
+
 // Returns the entries that are not talk.
 #[tactic(auto, using(crate::proofs::Talking::without_more))]
 fn work_of(alloc: Global, entries: &[Entry]) -> Result<Vec<Entry>, AllocError>

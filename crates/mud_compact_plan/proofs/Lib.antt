@@ -1,1 +1,1 @@
-mod Spelling
+mod Spellable

@@ -31,11 +31,12 @@ class Option:
 
 @dataclass
 class File:
-    """A file argument by position."""
+    """A file by position, or other words by position: one, or several."""
 
     name: str
     text: str
     is_required: bool
+    is_many: bool
 
 
 @dataclass
@@ -86,11 +87,11 @@ def option_of(left, text, usage):
 
 
 def file_of(left, text):
-    """Returns the file of a row: `<FILE>` is required, `[FILE]` is optional."""
-    found = re.fullmatch(r"<(\w+)>|\[(\w+)\]", left)
+    """Returns the file of a row: `<FILE>` is required, `[FILE]` is optional, and `...` follows the name of several."""
+    found = re.fullmatch(r"(?:<(\w+)>|\[(\w+)\])(\.\.\.)?", left)
     if not found:
         raise Unread(f"no file: {left}")
-    return File(found[1] or found[2], text, bool(found[1]))
+    return File(found[1] or found[2], text, bool(found[1]), bool(found[3]))
 
 
 def read_form(words, text):

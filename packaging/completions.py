@@ -94,7 +94,8 @@ def zsh_specs(form, forms=()):
     """Returns the specifications of a form's arguments, a line each; before any form, one of the forms, and then its
     own."""
     specs = [spec for option in form.options for spec in zsh_option(option)]
-    specs += [f"'{at}:{file.name}:_files'" for at, file in enumerate(form.files, 1)]
+    specs += [f"'*:{file.name}: '" if file.is_many else f"'{at}:{file.name}:_files'"
+              for at, file in enumerate(form.files, 1)]
     if forms:
         each = " ".join(f'{one.words[1]}\\:"{quoted(one.about)}"' for one in forms)
         specs += [f"'1:form:(({each}))'", "'*::word:->words'"]

@@ -166,8 +166,7 @@ def put_read(folder, licenses):
 def put_all(release, folder, prefix, programs, proved, licenses):
     """Copies everything that the tarball and the package share below the folder of the prefix."""
     shutil.copytree(programs, f"{folder}/bin", copy_function=name_again)
-    for name in ("launch", "serve"):
-        write(f"{folder}/libexec/seamountcup/{name}", read(f"{HERE}/{name}"), EXECUTABLE)
+    write(f"{folder}/libexec/seamountcup/launch", read(f"{HERE}/launch"), EXECUTABLE)
     unit = template("mud_serve.service", PREFIX=prefix)
     write(f"{folder}/lib/systemd/system/mud_serve.service", unit)
     lines = {name: read_program(name, f"{programs}/{name}") for name in os.listdir(programs)}

@@ -39,7 +39,8 @@ def synopsis_of(form):
     """Returns the lines that show how to call a form."""
     lines = [".Nm", *(f".Cm {word}" for word in form.words[1:])]
     lines += [f".{'' if option.is_required else 'Op '}{flag(option)}" for option in own(form)]
-    return lines + [f".{'' if file.is_required else 'Op '}Ar {file.name}" for file in form.files]
+    more = {True: " ...", False: ""}
+    return lines + [f".{'' if file.is_required else 'Op '}Ar {file.name}{more[file.is_many]}" for file in form.files]
 
 
 def head_of(program):

@@ -51,7 +51,7 @@ EMPTIED = "sessionStorage.clear(), world.clear()"
 LOADED, ON = "document.readyState === 'complete'", "document.body.dataset.state === 'on'"
 # How often a page of another origin sends lines to the Telnet port, and the log line about it; and the script that
 # sends them, which returns how often no answer came.
-SENT, TOLD_OF = 400, b"sent a browser's request by Telnet"
+SENT, TOLD_OF = 400, " why=request "
 SEND = """(async (url, count) => {
   const how = { method: 'POST', mode: 'no-cors', body: '\\r\\nconnect Fetched\\r\\nsay by fetch\\r\\n' };
   let ended = 0;
@@ -199,7 +199,7 @@ def count_sent(count, browser):
         browser.open(f"{server.origin}/nothing")
         ended = browser.value(f"{SEND}('http://{HOST}:{server.port}/', {SENT})")
         server.type(b"stop\n")
-        given = ended, *server.end(), TOLD_OF in server.said()
+        given = ended, *server.end(), any(TOLD_OF in line for line in server.logged())
     count(f"{browser.name}: lines in requests", given == (SENT, 0, b"mud history 2\nend 0\n", True), given)
 
 

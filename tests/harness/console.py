@@ -8,7 +8,7 @@ from harness.programs import program
 from harness.server import Client, Server
 
 MILLION = 1_000_000
-NOT_KNOWN = b"mud_serve: the console knows one word: stop\n"
+NOT_KNOWN = b"error no such order: help tells them\n"
 STOPS = b"(server stops)"
 
 # The case; its input, and whether the input ends after it; the number of lines that are not understood.
@@ -17,7 +17,8 @@ TYPED = [
     ("stop with a return", b"stop\r\n", False, 0),
     ("the end of what is typed", b"", True, 0),
     ("the end behind a part of a line", b"sto", True, 0),
-    ("stop behind other lines", b"help\n\nstop it\n stop\nSTOP\nstopp\nstop\n", False, 6),
+    ("stop behind other lines", b"halt\n\nstop it\nSTOP\nstopp\nstop\n", False, 5),
+    ("stop between blanks", b"  stop  \n", False, 0),
     ("stop in pieces", b"st", False, 0),
     ("stop behind a long line", b"stop" * (MILLION // 4) + b"\nstop\n", False, 1),
 ]
@@ -60,7 +61,7 @@ def why_going_on(text, is_ended, wrong_lines):
         told, given = last_line(client), (server.process.wait(timeout=10), server.process.stdout.read())
         if told != STOPS or given != (0, ended(ANN)):
             return f"{told}, {given}"
-        typed = [line for line in server.said().splitlines(keepends=True) if line.startswith(b"mud_serve")]
+        typed = [line for line in server.said().splitlines(keepends=True) if line != b"ok\n"]
         return "" if typed == [NOT_KNOWN] * wrong_lines else f"it says {typed}"
 
 

@@ -293,8 +293,8 @@ def count_upgrade(count, made, machine, package, old):
     count("upgrade: it runs again", machine.is_active(STOP_SECONDS))
     said = machine.says("mud_serve --version; dpkg-query --show --showformat '${Version}' seamountcup")
     count("upgrade: version", said == f"{made.says('mud_serve')}{made.debian_version()}", said)
-    options = machine.says("tr '\\0' ' ' < /proc/$(pidof mud_serve)/cmdline")
-    count("upgrade: the host's options", "--idle 7200" in options, options)
+    options = machine.says("mud_serve listen --config /etc/seamountcup/serve.toml --check 2>&1 || true")
+    count("upgrade: the host's options", "idle 7200" in options.split("\n"), options)
     count_kept(count, "upgrade", machine, world)
     count_played(count, "upgrade: after", machine)
 

@@ -10,7 +10,7 @@ from harness.inputs import read, tests_file
 from harness.parts import part
 from harness.programs import program
 from harness.runs import LIBRARY, history_and_proof
-from harness.server import Client, Server
+from harness.server import LOGGED, Client, Server
 
 ANY = object()
 FULL_DISK = "/dev/full"
@@ -59,7 +59,7 @@ class Ends:
         os.close(reading)
         if target is not None:
             os.close(writing)
-        return ran.returncode, ran.stdout or "", ran.stderr
+        return ran.returncode, ran.stdout or "", LOGGED.sub(b"", ran.stderr.encode()).decode()
 
     def wants(self, status, output, errors, name, words=(), source="/dev/null", target=None):
         """Counts a command. `ANY` errors are any non-empty text."""

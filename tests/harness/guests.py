@@ -10,18 +10,19 @@ import time
 from concurrent.futures import ThreadPoolExecutor
 
 from harness.journal import FIRST, Place, ended, said
+from harness.log_lines import strange
 from harness.parts import part
 from harness.preload import library
 from harness.programs import program
-from harness.server import HOST, Client, Server
+from harness.server import HOST, LOGGED, Client, Server
 
 GREETING = b"Welcome. Type: connect NAME"
 SERVER_FULL, HISTORY_FULL, TOO_MANY = b"(server full)", b"(history full)", b"(too many sessions)"
 OTHER_HOST = "127.0.0.2"
 NOP = b"\xff\xf1"
 LISTENING_FAULT = b"mud_serve: cannot listen\n"
-NONE_FOR_NOW = b"no connection can be taken for now"
-NEARLY_FULL = rb"the history has (\d+) of (\d+) changes: stop the server, shorten the history, and go on\n"
+NONE_FOR_NOW = "no-accept why="
+NEARLY_FULL = re.compile(r"nearly-full changes=(\d+) most=(\d+)")
 
 OF_SOME_DESK = rb"mud history 2\n1 (\d+) player #2 \"Ann\"\n2 \1 say #2 hi\nend 2\n"
 
@@ -103,10 +104,15 @@ def stop(server):
 def parting(server, client):
     """Returns the end of a client's session, as the log names it, once it does."""
     host, port = client.socket.getsockname()
-    mark = f"the session of {host}:{port} ends: ".encode()
-    is_soon(lambda: mark in server.said())
-    rest = server.said().partition(mark)[2]
-    return rest.partition(b"\n")[0].decode()
+    return end_of(server, host, port)
+
+
+def end_of(server, host, port):
+    """Returns the end reason of the session of an address and port, once the log has it, or None."""
+    mark = re.compile(rf"end session=[0-9]+ from={re.escape(host)}:{port} why=(\S+)")
+    found = lambda: next(filter(None, map(mark.match, server.logged())), None)
+    is_soon(lambda: found() is not None)
+    return found() and found()[1]
 
 
 def seconds_to_end(client, meanwhile=lambda: None, longest=10):
@@ -131,19 +137,20 @@ def why_descriptors():
     few = lambda: resource.setrlimit(resource.RLIMIT_NOFILE, (DESCRIPTORS, DESCRIPTORS))
     with listening(preexec_fn=few) as server:
         crowd = [Client(server.port) for _ in range(WAITING)]
-        if not is_soon(lambda: NONE_FOR_NOW in server.said()):
+        if not is_soon(lambda: any(NONE_FOR_NOW in line for line in server.logged())):
             return "the log says nothing"
         time.sleep(0.5)
-        told = server.said().count(NONE_FOR_NOW)
+        told = sum(NONE_FOR_NOW in line for line in server.logged())
         for client in crowd:
             client.close()
         client = named(server.port)
         client.send(b"say hi")
         answer = client.line()
-        given = stop(server)
+        given, unlike = stop(server), strange(server.logged())
         # the free desk depends on which client is served first
         is_whole = given[0] == 0 and re.fullmatch(OF_SOME_DESK, given[1])
-        return "" if (answer, told) == (b"[2] said", 1) and is_whole else f"{answer}, {told}, {given}"
+        is_right = (answer, told, unlike) == (b"[2] said", 1, []) and is_whole
+        return "" if is_right else f"{answer}, {told}, {given}, {unlike}"
 
 
 def why_accept(number, times):
@@ -160,7 +167,9 @@ def why_no_more(number):
     environment = {"LD_PRELOAD": library("fail_accept"), "ACCEPT_ERROR": str(number), "ACCEPT_TIMES": "1000000"}
     with Server(program("mud_serve"), environment=environment) as server:
         given = server.end(), server.said().splitlines(keepends=True)[-1:]
-        return "" if given == ((3, ended(FIRST)), [LISTENING_FAULT]) else f"{given}"
+        closed = [line for line in server.logged() if line.startswith("closed by=telnet why=")]
+        is_logged = len(closed) == 1 and not strange(server.logged())
+        return "" if given == ((3, ended(FIRST)), [LISTENING_FAULT]) and is_logged else f"{given}, {server.logged()}"
 
 
 def why_per_address():
@@ -356,9 +365,10 @@ def why_log():
             server.type(b"stop\n")
             status, text = server.process.wait(timeout=10), reading.result(timeout=10)
         lines = text.splitlines()
-        dropped = [int(line.split()[1]) for line in lines if line.endswith(b"lines of the log were dropped")]
-        told = sum(b" session of " in line for line in lines)
+        dropped = [int(count) for count in re.findall(rb"Z dropped lines=(\d+)$", text, re.MULTILINE)]
+        told = sum(b"Z begin " in line or b"Z end " in line for line in lines)
         is_right = status == 0 and dropped and told + sum(dropped) == 2 * VISITS
+        is_right &= not strange([line.decode() for line in LOGGED.findall(text)])
         return "" if is_right else f"status {status}, {told} lines, {dropped} dropped, of {2 * VISITS}"
 
 
@@ -373,13 +383,14 @@ def why_partings():
         server.type(b"stop\n")
         status, _ = server.end()
         words.append(parting(server, stays))
-        given = words, server.said().count(b"ends: left\n"), status
-        return "" if given == (["left", "left", "server stops"], 3, 0) else f"{given}"
+        given = words, sum(" why=left" in line for line in server.logged()), status
+        return "" if given == (["left", "left", "server-stops"], 3, 0) else f"{given}"
 
 
 def warned(server):
     """Returns the numbers in the log's warnings that the history is nearly full."""
-    return [tuple(map(int, numbers)) for numbers in re.findall(NEARLY_FULL, server.said())]
+    found = filter(None, map(NEARLY_FULL.fullmatch, server.logged()))
+    return [tuple(map(int, numbers.groups())) for numbers in found]
 
 
 def why_nearly_full():

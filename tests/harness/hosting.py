@@ -18,7 +18,6 @@ from harness.web_client import NotLetIn, WebClient
 
 NAME = "mud.example.org"
 ORIGIN = f"https://{NAME}"
-UNIT = f"{TOP}/examples/mud_serve.service"
 # The exposure level of a unit by systemd-analyze: up to 10, which means no protection at all.
 EXPOSURE, MOST_EXPOSURE = re.compile(r"exposure level for \S+: ([\d.]+)"), 2
 MOST_SESSIONS = 4
@@ -54,14 +53,29 @@ def recipe(kind):
     return re.search(rf"^```{kind}\n(.*?)^```$", page, re.M | re.S)[1]
 
 
+def put_unit(folder):
+    """Writes the unit of packages with its prefix below this folder, and the files that it starts. Returns its path."""
+    for name in ("bin/mud_serve", "libexec/seamountcup/launch"):
+        os.makedirs(os.path.dirname(f"{folder}/{name}"), exist_ok=True)
+        shutil.copy(f"{TOP}/packaging/launch", f"{folder}/{name}")
+    path = f"{folder}/mud_serve.service"
+    with open(path, "wb") as file:
+        text = read(f"{TOP}/packaging/mud_serve.service").replace(b"%PREFIX", folder.encode())
+        # the manual is not installed here
+        file.write(re.sub(rb"(?m)^Documentation=.*\n", b"", text))
+    return path
+
+
 @part("unit", "the unit for systemd is understood, and leaves a server few rights", on_demand=True)
 def unit(count):
     wanted("systemd-analyze")
     how = {"capture_output": True, "text": True, "check": False}
-    verified = subprocess.run(["systemd-analyze", "verify", UNIT], **how)
+    with tempfile.TemporaryDirectory() as folder:
+        path = put_unit(folder)
+        verified = subprocess.run(["systemd-analyze", "verify", path], **how)
+        judged = subprocess.run(["systemd-analyze", "security", "--offline=true", path], **how)
     said = verified.stdout + verified.stderr
     count("unit: understood", (verified.returncode, said) == (0, ""), said)
-    judged = subprocess.run(["systemd-analyze", "security", "--offline=true", UNIT], **how)
     found = EXPOSURE.search(judged.stdout)
     count("unit: exposure", found and float(found[1]) <= MOST_EXPOSURE, found and found[0])
 

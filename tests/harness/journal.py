@@ -10,7 +10,7 @@ import time
 
 from harness.parts import part
 from harness.programs import program
-from harness.server import HOST, Client, Server
+from harness.server import HOST, LOGGED, Client, Server
 
 SECONDS = 10
 # The longest start, in seconds, with as many changes as a history holds.
@@ -87,7 +87,7 @@ def why_taken(text, words, why):
         words = [word.format(whole=place.whole) for word in words]
         command = [program("mud_serve"), "listen", "--port", "0", "--address", HOST, "--journal", place.path, *words]
         ran = subprocess.run(command, stdin=subprocess.DEVNULL, capture_output=True, timeout=SECONDS, check=False)
-        given = ran.returncode, ran.stdout, ran.stderr
+        given = ran.returncode, ran.stdout, LOGGED.sub(b"", ran.stderr)
         if given != (3, b"", b"mud_serve: " + why + b"\n"):
             return f"{given}"
         return "" if place.text() == text else "the file is another one now"
@@ -111,7 +111,8 @@ def why_lost(text, kept, words=(), torn=0):
         given = server.end()
         if given != (0, ended(kept)):
             return f"{given}"
-        return "" if server.said() == told_of(torn) else f"it says {server.said()}, and not {told_of(torn)}"
+        right = told_of(torn) + b"ok\n"
+        return "" if server.said() == right else f"it says {server.said()}, and not {right}"
 
 
 def say(port, *lines):
@@ -279,7 +280,7 @@ def why_no_port():
         words = ["--port", str(first.port), "--address", HOST, "--journal", place.path]
         command = [program("mud_serve"), "listen", *words]
         ran = subprocess.run(command, stdin=subprocess.DEVNULL, capture_output=True, timeout=SECONDS, check=False)
-        given = ran.returncode, ran.stdout, ran.stderr, place.text()
+        given = ran.returncode, ran.stdout, LOGGED.sub(b"", ran.stderr), place.text()
         right = 3, b"", told_of(6) + b"mud_serve: cannot listen on port %d: in use\n" % first.port, torn
         return "" if given == right else f"{given}"
 

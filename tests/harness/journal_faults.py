@@ -17,7 +17,7 @@ from harness.preload import library
 from harness.server import Client
 from harness.web import WebServer
 
-SAID, MOST_RUNS, FULL_BYTES = 6, 100, 400
+SAID, MOST_RUNS, FULL_BYTES = 6, 100, 4000
 FAULT = b"(journal fault)"
 REPLY = re.compile(rb"\[(\d+)\] said")
 # The messages of a server that does not start, or has ended.
@@ -30,7 +30,7 @@ LOST_SYNC = 3
 def say(client, told):
     """Says things, one after the other, until a line is not answered. Returns the last line, or None at the end."""
     for at in range(SAID):
-        text = b"line %d" % at
+        text = b"line %d " % at + b"x" * 200
         client.send(b"say " + text)
         line = client.line()
         reply = REPLY.fullmatch(line or b"")

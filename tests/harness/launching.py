@@ -1,6 +1,4 @@
-"""The launcher of packages: a signal ends a server in order, in each shell that is here, also as process 1. And the
-options that `serve` reads from a file.
-"""
+"""The launcher of packages: a signal ends a server in order, in each shell that is here, also as process 1."""
 import os
 import shutil
 import signal
@@ -14,7 +12,7 @@ from harness.parts import part
 from harness.programs import TOP, program
 from harness.server import Client, Server
 
-LAUNCH, SERVE = (f"{TOP}/packaging/{name}" for name in ("launch", "serve"))
+LAUNCH = f"{TOP}/packaging/launch"
 SHELLS = {"dash": ["dash"], "bash": ["bash", "--posix"], "busybox": ["busybox", "sh"]}
 # The longest time of a stop.
 STOP_SECONDS = 3
@@ -102,53 +100,8 @@ def launches(count, name, shell):
     count.tries(f"launcher: bad words in {name}", why_not_refused, shell)
 
 
-# ---- options in a file
-
-OPTIONS = """# A comment, and a blank line.
-
-port = 4000
-address = "127.0.0.1"
-journal = "/var/lib/a world's \\"folder\\"/world.journal"
-#idle = 5
-count-players = true
-console-is-not = false
-web-origin = "http://localhost:8000"
-total = 0"""
-WORDS = ["listen", "--port", "4000", "--address", "127.0.0.1", "--journal"]
-WORDS += ['/var/lib/a world\'s \\"folder\\"/world.journal', "--count-players", "--web-origin", "http://localhost:8000"]
-WORDS += ["--total", "0", "--console"]
-BAD = ["port 4000", "port=4000", "port = ", "port = -1", "port = 4000 # four", "[a]"]
-BAD += ['address = "127', "address = local"]
-
-
-def served(options, folder):
-    """Returns the result of `serve` with these options: its status, the words that the program got, its output."""
-    for path, text in (("program", '#!/bin/sh\nprintf "%s\\n" "$@"\n'), ("serve.toml", options)):
-        with open(f"{folder}/{path}", "w") as file:
-            file.write(text)
-    os.chmod(f"{folder}/program", 0o755)
-    how = {"capture_output": True, "text": True, "env": {**os.environ, "RUNTIME_DIRECTORY": folder}}
-    ran = subprocess.run([SERVE, f"{folder}/program", f"{folder}/serve.toml"], **how)
-    return ran.returncode, ran.stdout.splitlines(), ran.stderr
-
-
-def count_served(count):
-    """Tests files with options."""
-    with tempfile.TemporaryDirectory() as folder:
-        given = served(OPTIONS, folder)
-        count("serve: options", given == (0, WORDS, ""), given)
-        for line in BAD:
-            status, words, said = served(f"# one\n{line}\nport = 1\n", folder)
-            right = f"serve: {folder}/serve.toml line 2: {line}\n"
-            count(f"serve: {line}", (status, words, said) == (2, [], right), f"{status} {words} {said}")
-        missing = subprocess.run([SERVE, "true", f"{folder}/no such file"], capture_output=True, text=True)
-        right = (2, f"serve: cannot read {folder}/no such file\n")
-        count("serve: no file", (missing.returncode, missing.stderr) == right, missing)
-
-
-@part("launcher", "a signal to the launcher of packages ends a server in order, and its options come from a file")
+@part("launcher", "a signal to the launcher of packages ends a server in order, in each shell that is here")
 def launcher(count):
     for name, shell in SHELLS.items():
         if shutil.which(shell[0]):
             launches(count, name, shell)
-    count_served(count)

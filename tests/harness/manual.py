@@ -18,10 +18,10 @@ from harness.packages import PAGES, PROGRAMS, unpacked
 from harness.parts import part
 
 # A row of help: an option with its value, or a file; and its text.
-ROW = re.compile(r"^ +(?:-\w, )?(--[\w-]+|<\w+>|\[\w+\])(?: <(\w+)>)? {2,}(.*)$", re.M)
+ROW = re.compile(r"^ +(?:-\w, )?(--[\w-]+|<\w+>|\[\w+\])(?:\.\.\.)?(?: <(\w+)>)? {2,}(.*)$", re.M)
 # An item of a page, or a line of its synopsis, and the text below an item.
 ITEM = re.compile(r"^\.It (?:Fl -([\w-]+)|Ar (\w+))(?: Ar (\w+))?\n((?:(?!\.It|\.El).*\n)*)", re.M)
-SYNOPSIS = re.compile(r"^\.(Op )?(?:Fl -([\w-]+)(?: Ar (\w+))?|Ar (\w+))$", re.M)
+SYNOPSIS = re.compile(r"^\.(Op )?(?:Fl -([\w-]+)(?: Ar (\w+))?|Ar (\w+)(?: \.\.\.)?)$", re.M)
 REFERENCE = re.compile(r"referenced manual not found: Xr (\S+) (\d)")
 # A required option with its value in a usage.
 NEEDED = re.compile(r"(--[\w-]+) <(\w+)>")

@@ -27,7 +27,7 @@ SHARED = [
     *(f"share/bash-completion/completions/{name}" for name in PROGRAMS),
     *(f"share/doc/seamountcup/{name}" for name in ("CHANGELOG.md", "LICENSE", "PROVED.json", "README.md")),
     "share/doc/seamountcup/docs/HOSTING.md", "share/doc/seamountcup/licenses/clap/LICENSE-MIT",
-    "lib/systemd/system/mud_serve.service", "libexec/seamountcup/launch", "libexec/seamountcup/serve",
+    "lib/systemd/system/mud_serve.service", "libexec/seamountcup/launch",
 ]
 PAGES = [*(f"man1/{name}.1" for name in PROGRAMS), "man7/seamountcup.7"]
 

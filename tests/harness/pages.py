@@ -12,7 +12,7 @@ LONGEST_LINE, README_LINES = 120, 110
 # The files that people read: pages, scripts, sources and specs. Of proofs only the lines are checked.
 SOURCES = ["crates/*/src/**/*.rt", "crates/*/specs/**/*.antt"]
 PROOFS = ["crates/*/proofs/**/*.antt"]
-SCRIPTS = ["run", ".ci/run", "tests/run", "tests/*/*.py", "tests/*/*.c", "bench/*", "bench/*/*"]
+SCRIPTS = ["run", ".ci/run", "tests/run", "tests/*/*.py", "tests/*/*.c", "bench/*", "bench/*/*", "packaging/*"]
 PAGES = ["*.md", "docs/*", "bench/*.md", "tests/*.md"]
 # The pages whose names between backquotes are all of the crates, or of parts of tests/run.
 NAMING = ["PROVED", "THEOREM", "DEFINITIONS", "WORDS", "COMMANDS", "WORLD", "KEEPING", "HISTORY", "ROADS", "GUIDE"]
@@ -27,6 +27,11 @@ NAME = re.compile(r"[A-Za-z_]\w*(?:::\w+)*")
 RULE = re.compile(r"^\|[ :|-]+$")
 # A step of a path through the crates: a crate, and the first name after it.
 STEP = re.compile(r"^\d+\. `(mud_\w+)`: .*?`([A-Za-z_]\w*(?:::\w+)*)`", re.M)
+# The claims whose definitions README counts, and the crates without proofs: the tests, and the text of the page.
+BELIEVED = ("the theorems about the guide", "the verdict of the checker", "the journal")
+WITHOUT_PROOFS = ("crates/mud_tests/", "crates/mud_page/")
+NUMBER = re.compile(r"\b\d[\d,]*\b")
+FUNCTION = re.compile(r"\bfn (\w+)")
 PLACEHOLDER = re.compile(r"\b(?:NAME|CRATE|SUBJECT|DOUBT|PROGRAM)\b")
 LOGIC = re.compile(r"logic ([0-9a-f]{8,})")
 # A section of docs/FAULTS.md, and the entries of a section: the fault, and the parts of its entry, in this order. The
@@ -164,6 +169,20 @@ def count_steps(count, page):
     for crate, name in STEP.findall(text_of(page)):
         known = {word for path in files([f"crates/{crate}/src/*.rt"]) for word in WORD.findall(text_of(path))}
         count(f"{page}: {crate}: {name}", known.issuperset(WORD.findall(name)), "this crate has no such name")
+
+
+def count_functions(count, page):
+    """Tests the functions on the path of a line: their number is the one that the page says, and each is in its crate.
+    """
+    section = text_of(page).partition("### Its functions")[2].partition("\n## ")[0]
+    said = re.search(r"passes through (\d+) functions", section)
+    named = [(SPAN.findall(crate)[0], SPAN.findall(cell)) for crate, cell in rows_of(section)]
+    total = sum(len(names) for _, names in named)
+    count(f"{page}: functions", said and int(said[1]) == total, f"the table has {total}")
+    for crate, names in named:
+        known = {word for path in files([f"crates/{crate}/src/*.rt"]) for word in FUNCTION.findall(text_of(path))}
+        gone = [name for name in names if name.rpartition("::")[2] not in known]
+        count(f"{page}: functions of {crate}", not gone, f"this crate has no {', '.join(gone)}")
 
 
 def carriers(cell, crate):
@@ -305,6 +324,30 @@ def count_kit(count):
         count(f"{path}: kit", bool(here) and set(named) == set(here), f"names {named}; rt version says {said.strip()}")
 
 
+def lines_of(patterns, comment):
+    """Returns the number of lines of files, without comments and blank lines, in the crates that may have proofs."""
+    named = [path for path in files(patterns) if not path.startswith(WITHOUT_PROOFS)]
+    lines = [line.strip() for path in named for line in text_of(path).split("\n")]
+    return sum(1 for line in lines if line and not line.startswith(comment))
+
+
+def count_figures(count):
+    """Tests the figures of README: definitions to believe, proofs and code, and wrong bodies."""
+    readme, trust = text_of("README.md"), rows_of(text_of("docs/TRUST.md"))
+    said = {key: [int(number.replace(",", "")) for number in NUMBER.findall(text)]
+            for key, text in re.findall(r"^\| (to believe|to prove|planted mistakes)[^|]*\| (.*) \|$", readme, re.M)}
+    believed = [int(cells[3]) for claim in BELIEVED for cells in trust if cells[0] == claim]
+    count("README.md: definitions", said["to believe"] == believed, f"docs/TRUST.md has {believed}")
+    proofs, code = lines_of(PROOFS, "--"), lines_of(["crates/*/src/**/*.rt"], "//")
+    near = [abs(told - true) <= true / 50 for told, true in zip(said["to prove"], (proofs, code))]
+    rate = f"{proofs / code:.1f} to 1"
+    count("README.md: proofs", near == [True, True] and rate in readme, f"{proofs} lines for {code} of code, {rate}")
+    edits = [text_of(path) for path in files(["tests/wrong-bodies/*/*.edit"])]
+    by_kit = len(files(["crates/*/must-fail/*"]))
+    planted = [len(edits) + by_kit, sum("tried: in the gate" in text for text in edits) + by_kit]
+    count("README.md: wrong bodies", said["planted mistakes"] == planted, f"there are {planted}")
+
+
 def count_readers(count):
     """Tests that README's table of pages has a row for each page."""
     rows = " ".join(cells[-1] for cells in rows_of(text_of("README.md")))
@@ -326,6 +369,7 @@ def count_repeated(count):
 def check_pages(count):
     count_lines(count)
     count_kit(count)
+    count_figures(count)
     count_readers(count)
     count_repeated(count)
     for page in pages():
@@ -336,6 +380,7 @@ def check_pages(count):
     count_clauses(count, "docs/THEOREM.md")
     count_quoted_lines(count, "docs/THEOREM.md", "docs/TRUST.md")
     count_steps(count, "docs/ARCHITECTURE.md")
+    count_functions(count, "docs/ARCHITECTURE.md")
     known = known_names()
     for page in NAMING:
         count_names(count, f"docs/{page}.md", known)

@@ -19,7 +19,7 @@ NO_REQUESTS = [b"look", b"POST", b"POST /x", b"POST /x HTTP", b"POST /x HTTP/", 
                b" POST /x HTTP/1.1", b"POST /x y HTTP/1.1", b"P0ST /x HTTP/1.1", b"POST /x http/1.1"]
 GOES_ON = b"(goes on)"
 TRIES = 400
-TOLD = b"sent a browser's request by Telnet"
+TOLD = " why=request "
 
 
 def give(port, pieces, pause=0.002):
@@ -96,7 +96,7 @@ def why_reset():
         named(server.port, b"Ann").close()
         took = time.monotonic() - began
         status, printed = stop(server)
-        told = server.said().count(TOLD)
+        told = sum(TOLD in line for line in server.logged())
         given = status, b"Fetched" in printed, 1 <= told <= took + 2
         return "" if given == (0, False, True) else f"{given}, {told} lines in {took} s"
 
@@ -109,8 +109,9 @@ def why_counted():
             give(server.port, [REQUEST])
         is_served = is_soon(lambda: is_greeted(server.port))
         status, _ = server.end()
-        said = server.said()
-        given = is_served, status, said.count(b" begins"), 1 <= said.count(TOLD) <= 5
+        said = server.logged()
+        begun, told = (sum(word in line for line in said) for word in ("begin ", TOLD))
+        given = is_served, status, begun, 1 <= told <= 5
         return "" if given == (True, 0, 1, True) else f"{given}, {said}"
 
 

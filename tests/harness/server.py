@@ -1,5 +1,6 @@
 """A server on a free port of this machine, and its clients. Nothing here waits longer than SECONDS for one line."""
 import os
+import re
 import socket
 import struct
 import subprocess
@@ -7,6 +8,10 @@ import tempfile
 
 HOST = "127.0.0.1"
 SECONDS = 10
+# A line of the log: its time (RFC 3339, in UTC), and what it says.
+LOGGED = re.compile(rb"^[0-9]{4}-[0-9]{2}-[0-9]{2}T[0-9]{2}:[0-9]{2}:[0-9]{2}\.[0-9]{3}Z (.*)\n", re.MULTILINE)
+# A server that reads as fast as its clients send: tests of limits say otherwise.
+NO_LIMITS = ["--lines-per-second", "0", "--changes-per-minute", "0", "--work-per-second", "0"]
 
 
 def received(connection):
@@ -19,11 +24,15 @@ def received(connection):
 
 class Server:
     """`PROGRAM listen WORD..` on a free port, which is its `port`, or None if it ended before it said so. With a
-    console, lines can be typed at it. Its errors go to a file, unless the caller says where else."""
+    console, lines can be typed at it. Its errors go to a file, unless the caller says where else. It has no limits but
+    those of its words, unless it is `limited`. Another program may start it: `by` has its words, which come first.
+    """
 
-    def __init__(self, program, words=(), environment=None, console=False, errors=None, **how):
+    def __init__(self, program, words=(), environment=None, console=False, errors=None, limited=False, by=(), **how):
         self.errors = errors or tempfile.TemporaryFile()
-        command = [program, "listen", "--port", "0", "--address", HOST, *words, *["--console"] * console]
+        command = [*by, program, "listen", "--port", "0", *words, *["--console"] * console]
+        command += [] if "--address" in words else ["--address", HOST]
+        command += [] if limited else NO_LIMITS
         how |= {"stdin": subprocess.PIPE if console else subprocess.DEVNULL}
         how |= {"stdout": subprocess.PIPE, "stderr": self.errors, "bufsize": 0}
         self.process = subprocess.Popen(command, env={**os.environ, **(environment or {})}, **how)
@@ -43,7 +52,15 @@ class Server:
         self.process.stdin.write(text)
 
     def said(self):
-        """Returns what it has written to standard error."""
+        """Returns what it has written to standard error, without the lines of its log."""
+        return LOGGED.sub(b"", self.written())
+
+    def logged(self):
+        """Returns the lines of its log, without their times and line ends."""
+        return [line.decode() for line in LOGGED.findall(self.written())]
+
+    def written(self):
+        """Returns all that it has written to standard error."""
         self.errors.seek(0)
         return self.errors.read()
 

@@ -1,6 +1,7 @@
 """A siege: sixty-four hostile clients of all kinds for ten minutes, while two people play. Each answer to the two comes
 within BOUND, and the history printed at the end judges what they read. Once the hostile clients have left, the server
-has as many descriptors as before and hardly more memory. `tests/run siege SECONDS` makes it shorter."""
+has as many descriptors as before and hardly more memory. `tests/run siege SECONDS` makes it shorter, and `tests/run
+siege SECONDS limited` has the default rate limits."""
 import multiprocessing
 import os
 import random
@@ -16,8 +17,9 @@ from harness.visit import Visit
 
 SECONDS, BOUND = 600, 0.1
 HOSTILE, IN_ONE = 64, 8
-# The pause of each player between two lines, and how much more memory the server may have at the end.
-PAUSE, GROWTH = 0.05, 8_000_000
+# The pause of each player between two lines, without and with rate limits, and how much more memory the server may have
+# at the end.
+PAUSE, LIMITED_PAUSE, GROWTH = 0.05, 4, 8_000_000
 NAMES = 8
 # The judge's findings about the hostile clients, whose texts nobody keeps.
 STRANGERS = re.compile(r'\(player #\d+ "Guest\d"\) was answered to nobody$')
@@ -102,7 +104,7 @@ def arrive(port, name):
     return visit
 
 
-def play(visit, end, waits):
+def play(visit, end, waits, pause):
     """Plays until the end, and notes how long each answer took."""
     at = 0
     while time.monotonic() < end:
@@ -110,7 +112,7 @@ def play(visit, end, waits):
         began = time.monotonic()
         visit.ask(["look", f"say {at}", "@version", "route to here"][at % 4])
         waits.append(time.monotonic() - began)
-        time.sleep(PAUSE)
+        time.sleep(pause)
 
 
 def standing(server):
@@ -128,7 +130,7 @@ def crowd_once(port):
         client.close()
 
 
-def held_out(server, seconds):
+def held_out(server, seconds, pause):
     """Returns the waits of the two players, their sessions, and what the server had before and after."""
     one, other = arrive(server.port, "Ann"), arrive(server.port, "Bob")
     crowd_once(server.port)
@@ -141,7 +143,7 @@ def held_out(server, seconds):
     for process in hostile:
         process.start()
     waits = []
-    players = [threading.Thread(target=play, args=(visit, end, waits)) for visit in (one, other)]
+    players = [threading.Thread(target=play, args=(visit, end, waits, pause)) for visit in (one, other)]
     for each in players:
         each.start()
     for each in [*players, *hostile]:
@@ -153,10 +155,11 @@ def held_out(server, seconds):
     return waits, [one.session, other.session], before, after
 
 
-@part("siege", "sixty-four hostile clients for ten minutes, while two play", True, "SECONDS")
-def siege(count, seconds=SECONDS):
-    with Server(program("mud_serve"), LIMITS, AS_HOSTED, console=True) as server:
-        waits, sessions, before, after = held_out(server, float(seconds))
+@part("siege", "sixty-four hostile clients for ten minutes, while two play", True, "[SECONDS [limited]]")
+def siege(count, seconds=SECONDS, limited=""):
+    pause = LIMITED_PAUSE if limited else PAUSE
+    with Server(program("mud_serve"), LIMITS, AS_HOSTED, console=True, limited=bool(limited)) as server:
+        waits, sessions, before, after = held_out(server, float(seconds), pause)
         server.type(b"stop\n")
         status, printed = server.end()
     faults = [fault for fault in judge(printed.decode(), sessions)[0] if not STRANGERS.search(fault)]

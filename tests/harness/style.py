@@ -18,7 +18,7 @@ RATTLE, SPECS, PROOFS = ["crates/*/src/**/*.rt"], ["crates/*/specs/**/*.antt"], 
 PYTHON = ["run", "tests/run", "tests/*.py", "tests/harness/**/*.py", "packaging/*.py", "page/*.py", "bench/*.py"]
 PYTHON += [f"bench/{name}" for name in ("builders", "journal", "lines", "load", "memory", "record", "tables", "web")]
 PYTHON += ["bench/hall/run", "bench/workers/run"]
-SHELL = [".ci/run", "bench/run", "packaging/launch", "packaging/serve", "packaging/*.toml", "packaging/*.service"]
+SHELL = [".ci/run", "bench/run", "packaging/launch", "packaging/*.toml", "packaging/*.service"]
 SHOWN = 5
 
 CODE, QUOTED = re.compile(r"``.+?``|`[^`]*`"), re.compile(r'"[^"]*"')

@@ -2,6 +2,7 @@
 once it could write nothing for a minute, by Telnet and on the web. It also ends one that reads a byte a second.
 Meanwhile another session reads a little now and then, and two talk. Buffers between server and client may hold a little
 more, so the test lasts up to three and a half minutes."""
+import re
 import time
 from concurrent.futures import ThreadPoolExecutor
 
@@ -19,15 +20,16 @@ class Watched:
     def __init__(self, server, client):
         self.server, self.client = server, client
         host, port = self.client.socket.getsockname()
-        self.end = f"the session of {host}:{port} ends: ".encode()
+        self.end = re.compile(rf"end session=[0-9]+ from={re.escape(host)}:{port} why=(\S+)")
         self.began = time.monotonic()
 
     def has_ended(self):
-        return self.end in self.server.said()
+        return bool(self.word())
 
     def word(self):
         """Returns the end reason in the log."""
-        return self.server.said().partition(self.end)[2].partition(b"\n")[0]
+        found = next(filter(None, map(self.end.match, self.server.logged())), None)
+        return found and found[1]
 
     def take_byte(self):
         """Reads one byte."""
@@ -96,7 +98,7 @@ def count_stuck(count):
     count("timeouts: the session that takes nothing ends", took is not None and MINUTE - 5 < took, f"after {took} s")
     count("timeouts: so does the one on the web", took_on_web is not None, f"after {took_on_web} s")
     count("timeouts: the session that takes a byte a second ends", later is not None, f"after {later} s")
-    count("timeouts: the log says why", words == [b"write time-out"] * 3, words)
+    count("timeouts: the log says why", words == ["write-timeout"] * 3, words)
     count("timeouts: the one that reads now and then goes on", goes_on)
 
 

@@ -275,13 +275,13 @@ def why_partings():
         for one in (quits, closes, breaks):
             one.rest()
             one.close()
-        was_said = is_soon(lambda: server.said().count(b" ends: ") == 3)
+        was_said = is_soon(lambda: sum(line.startswith("end ") for line in server.logged()) == 3)
         server.type(b"stop\n")
         stays.rest()
         stays.close()
         status, _ = server.end()
-        said = server.said()
-        given = [said.count(b"ends: %b\n" % word) for word in (b"left", b"broken frame", b"server stops")]
+        said = server.logged()
+        given = [sum(f" why={word}" in line for line in said) for word in ("left", "broken-frame", "server-stops")]
         return "" if (was_said, given, status) == (True, [2, 1, 1], 0) else f"{was_said}, {given}, {status}"
 
 

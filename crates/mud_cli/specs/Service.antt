@@ -13,5 +13,5 @@ pub record AreWithin (limits : ChosenLimits) : Type 0 where
 
 -- the numbers of a service are within their limits
 abbrev pub IsServed : Service → Type 0
-IsServed (Script limits) = AreWithin limits
+IsServed (Script scripting) = AreWithin scripting.limits
 IsServed (Listen listening) = AreWithin listening.limits × (listening.total ≤ MOST_TOTAL)

@@ -39,6 +39,12 @@ pub(crate) const PLACE: Argument = Argument {
     help: "",
 };
 
+// A list of texts by position, after the other positions.
+pub(crate) const PLACES: Argument = Argument {
+    action: ArgAction::Append,
+    ..PLACE
+};
+
 // An optional option that takes a text.
 pub(crate) const OPTION: Argument = Argument {
     is_option: true,

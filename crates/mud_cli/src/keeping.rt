@@ -1,12 +1,12 @@
 //! The command line of `mud_keep`.
 
-use crate::argument::{Argument, FLAG, PLACE};
 use crate::fault::CommandFault;
-use crate::form::{Form, program_of};
+use crate::form::program_of;
+use crate::keeping_forms::FORMS;
 use crate::matches::{matches_of, unfit};
 use clap::error::ErrorKind;
 use clap::{ArgMatches, Command};
-use std::alloc::{AllocError, Global};
+use std::alloc::{AllocError, AllocFailed, Global};
 
 /// A text that `mud_keep` makes from a file.
 #[derive(Clone, Copy)]
@@ -31,7 +31,7 @@ pub struct KeptFile<'a> {
 }
 
 /// The task of `mud_keep`.
-#[derive(Clone, Copy)]
+#[derive(Drop)]
 pub enum Keeping<'a> {
     /// Make a text from this file.
     Text {
@@ -43,7 +43,87 @@ pub enum Keeping<'a> {
         file: KeptFile<'a>,
         proof: Option<&'a str>,
     },
+    /// Draw the rooms, exits and players as a picture in SVG, or as a graph with the positions of the picture.
+    Picture {
+        file: KeptFile<'a>,
+        is_graph: bool,
+    },
+    /// Survey the world for these players, or for all if the list is empty, as a table or in JSON.
+    Survey {
+        file: KeptFile<'a>,
+        players: Vec<&'a str>,
+        is_json: bool,
+    },
+    /// Print the certificate of a player's way to a room.
+    Proof {
+        file: KeptFile<'a>,
+        player: &'a str,
+        room: &'a str,
+    },
+    /// Compare the world of the file `old` with that of the file `new`.
+    Diff {
+        old: KeptFile<'a>,
+        new: &'a str,
+    },
+    /// Print the history without the changes of these versions.
+    Without {
+        file: KeptFile<'a>,
+        versions: Vec<u32>,
+    },
+    /// Print the history without the changes from a version on, of one player or of all.
+    Since {
+        file: KeptFile<'a>,
+        first: u32,
+        by: Option<&'a str>,
+    },
+    /// Print the lines that build the world in a new one.
+    Lines {
+        file: KeptFile<'a>,
+    },
+    /// The lines that build these rooms. The player types them in room `here`, and the next object gets number `next`.
+    Part {
+        file: KeptFile<'a>,
+        rooms: Vec<&'a str>,
+        here: u32,
+        next: u32,
+    },
 }
+
+// The reason why well-formed words name no task.
+enum Unfit {
+    OutOfMemory,
+    Told(&'static str),
+}
+
+impl From<AllocError> for Unfit {
+    fn from(_e: AllocError) -> Unfit {
+        Unfit::OutOfMemory
+    }
+}
+
+impl<T: Drop> From<AllocFailed<T>> for Unfit {
+    fn from(_e: AllocFailed<T>) -> Unfit {
+        Unfit::OutOfMemory
+    }
+}
+
+const NO_WISH: &str = "what is to be done with which file?";
+
+const NO_PROOF: &str = "a proof is of one player, and has no JSON";
+
+const NO_DRAWING: &str = "a picture has one form, and no certificate";
+
+const NO_CHOICE: &str = "name the changes, or say by whom or since which version";
+
+const NO_PART: &str = "a whole world is built in a new one: name its rooms";
+
+// The version of a history's first change.
+const FIRST_VERSION: u32 = 1;
+
+// The room of #1 in a new world, and the number of the next object there.
+const NEW_HERE: u32 = 0;
+
+const NEW_NEXT: u32 = 2;
 
 // Returns the text that this form asks for.
 fn wish_in(name: &str, words: &ArgMatches<'_>) -> Option<Wish> {
@@ -58,99 +138,176 @@ fn wish_in(name: &str, words: &ArgMatches<'_>) -> Option<Wish> {
 
 // Returns the file that this form names.
 fn file_in<'a>(name: &str, words: &ArgMatches<'a>) -> Option<KeptFile<'a>> {
+    let file = words.get_str("FILE").or(words.get_str("OLD"));
     Some(KeptFile {
-        name: words.get_str("FILE")?,
+        name: file?,
         is_journal: name == "recover" || words.get_flag("journal"),
     })
+}
+
+// Returns the words of an argument that takes a list.
+fn several<'a>(
+    alloc: Global,
+    words: &ArgMatches<'a>,
+    name: &str,
+) -> Result<Vec<&'a str>, AllocError> {
+    let mut found = Vec::new(alloc);
+    if let Some(given) = words.get_strs(name) {
+        for word in given {
+            found.push(*word)?;
+        }
+    }
+    Ok(found)
+}
+
+// Returns the versions of the words.
+fn versions_in(alloc: Global, words: &ArgMatches<'_>) -> Result<Vec<u32>, Unfit> {
+    let mut versions = Vec::new(alloc);
+    for word in several(alloc, words, "CHANGES")? {
+        match word.parse::<u32>() {
+            Ok(version) => versions.push(version)?,
+            Err(_) => return Err(Unfit::Told("a change is named by its version")),
+        }
+    }
+    Ok(versions)
+}
+
+// Returns the survey or the proof that the words ask for.
+fn survey_in<'a>(
+    alloc: Global,
+    file: KeptFile<'a>,
+    words: &ArgMatches<'a>,
+) -> Result<Keeping<'a>, Unfit> {
+    let players = several(alloc, words, "PLAYERS")?;
+    let is_json = words.get_flag("json");
+    let Some(room) = words.get_str("proof") else {
+        return Ok(Keeping::Survey {
+            file,
+            players,
+            is_json,
+        });
+    };
+    match players.as_slice() {
+        [player] if !is_json => Ok(Keeping::Proof {
+            file,
+            player: *player,
+            room,
+        }),
+        _ => Err(Unfit::Told(NO_PROOF)),
+    }
+}
+
+// Returns the map or the picture that the words ask for.
+fn map_in<'a>(file: KeptFile<'a>, words: &ArgMatches<'a>) -> Result<Keeping<'a>, Unfit> {
+    let proof = words.get_str("PROOF");
+    match (words.get_flag("svg"), words.get_flag("neato"), proof) {
+        (false, false, _) => Ok(Keeping::Map { file, proof }),
+        (is_svg, is_graph, None) if is_svg != is_graph => Ok(Keeping::Picture { file, is_graph }),
+        _ => Err(Unfit::Told(NO_DRAWING)),
+    }
+}
+
+// Returns the task of the form `without`.
+fn without_in<'a>(
+    alloc: Global,
+    file: KeptFile<'a>,
+    words: &ArgMatches<'a>,
+) -> Result<Keeping<'a>, Unfit> {
+    let versions = versions_in(alloc, words)?;
+    let by = words.get_str("by");
+    let since = words.get_one::<u32>("since");
+    let is_evening = by.is_some() || since.is_some();
+    if versions.is_empty() != is_evening {
+        return Err(Unfit::Told(NO_CHOICE));
+    }
+    if is_evening {
+        let first = since.unwrap_or(FIRST_VERSION);
+        return Ok(Keeping::Since { file, first, by });
+    }
+    Ok(Keeping::Without { file, versions })
+}
+
+// Returns the task of the form `lines`.
+fn lines_in<'a>(
+    alloc: Global,
+    file: KeptFile<'a>,
+    words: &ArgMatches<'a>,
+) -> Result<Keeping<'a>, Unfit> {
+    let rooms = several(alloc, words, "ROOMS")?;
+    let (here, next) = (words.get_one::<u32>("here"), words.get_one::<u32>("next"));
+    if !rooms.is_empty() {
+        return Ok(Keeping::Part {
+            file,
+            rooms,
+            here: here.unwrap_or(NEW_HERE),
+            next: next.unwrap_or(NEW_NEXT),
+        });
+    }
+    match (here, next) {
+        (None, None) => Ok(Keeping::Lines { file }),
+        _ => Err(Unfit::Told(NO_PART)),
+    }
+}
+
+// Returns the task that the matched words name.
+fn keeping_in<'a>(alloc: Global, matches: &ArgMatches<'a>) -> Result<Keeping<'a>, Unfit> {
+    let Some((name, words)) = form_in(matches) else {
+        return Err(Unfit::Told(NO_WISH));
+    };
+    let Some(file) = file_in(name, words) else {
+        return Err(Unfit::Told(NO_WISH));
+    };
+    match name {
+        "map" => map_in(file, words),
+        "survey" => survey_in(alloc, file, words),
+        "without" => without_in(alloc, file, words),
+        "lines" => lines_in(alloc, file, words),
+        "diff" => diff_in(file, words),
+        _ => text_in(name, file, words),
+    }
+}
+
+// Returns the comparison that the words ask for.
+fn diff_in<'a>(old: KeptFile<'a>, words: &ArgMatches<'a>) -> Result<Keeping<'a>, Unfit> {
+    match words.get_str("NEW") {
+        Some(new) => Ok(Keeping::Diff { old, new }),
+        None => Err(Unfit::Told(NO_WISH)),
+    }
+}
+
+// Returns the text that the words ask for.
+fn text_in<'a>(
+    name: &str,
+    file: KeptFile<'a>,
+    words: &ArgMatches<'a>,
+) -> Result<Keeping<'a>, Unfit> {
+    match wish_in(name, words) {
+        Some(wish) => Ok(Keeping::Text { wish, file }),
+        None => Err(Unfit::Told(NO_WISH)),
+    }
+}
+
+// Returns the named form and its words.
+fn form_in<'m, 'a>(matches: &'m ArgMatches<'a>) -> Option<(&'a str, &'m ArgMatches<'a>)> {
+    let name = matches.subcommand_name()?;
+    Some((name, matches.subcommand_matches(name)?))
 }
 
 /// Reads the words of `mud_keep`. The first word is the program's name.
 pub fn keeping_of<'a>(alloc: Global, words: &'a [String]) -> Result<Keeping<'a>, CommandFault> {
     let mut command = command(alloc).map_err(|_| CommandFault::OutOfMemory)?;
     let matches = matches_of(alloc, &mut command, words)?;
-    match keeping_in(&matches) {
-        Some(keeping) => Ok(keeping),
-        None => {
-            let message = "what is to be done with which file?";
+    match keeping_in(alloc, &matches) {
+        Ok(keeping) => Ok(keeping),
+        Err(Unfit::OutOfMemory) => Err(CommandFault::OutOfMemory),
+        Err(Unfit::Told(message)) => {
             Err(unfit(alloc, &mut command, ErrorKind::MissingSubcommand, message))
         }
     }
 }
 
-// Returns the task that the matched words name.
-fn keeping_in<'a>(matches: &ArgMatches<'a>) -> Option<Keeping<'a>> {
-    let name = matches.subcommand_name()?;
-    let words = matches.subcommand_matches(name)?;
-    let file = file_in(name, words)?;
-    if name == "map" {
-        let proof = words.get_str("PROOF");
-        return Some(Keeping::Map { file, proof });
-    }
-    let wish = wish_in(name, words)?;
-    Some(Keeping::Text { wish, file })
-}
-
 // Builds the `clap` command.
 fn command<'a>(alloc: Global) -> Result<Command<'a>, AllocError> {
-    let about = "Recovers, shortens, shows and draws the history of a world";
+    let about = "Recovers, shortens, shows, surveys, compares and draws the history of a world";
     program_of(alloc, "mud_keep", about, &FORMS)
 }
-
-// The forms of `mud_keep`.
-static FORMS: [Form<'static>; 4] = [
-    Form {
-        name: "recover",
-        about: "Prints the history that a journal holds, with its end",
-        arguments: &[RECOVERED, FRONT],
-    },
-    Form {
-        name: "shorten",
-        about: "Prints a shorter history of the same world",
-        arguments: &[FILE, JOURNAL],
-    },
-    Form {
-        name: "show",
-        about: "Prints the world as a table",
-        arguments: &[FILE, JOURNAL],
-    },
-    Form {
-        name: "map",
-        about: "Prints the rooms and exits as a graph in DOT",
-        arguments: &[FILE, PROOF, JOURNAL],
-    },
-];
-
-// The file to read.
-const FILE: Argument = Argument {
-    name: "FILE",
-    is_required: true,
-    help: "The file of a history; - is standard input",
-    ..PLACE
-};
-
-// The file to recover.
-const RECOVERED: Argument = Argument {
-    help: "The file of a journal; - is standard input",
-    ..FILE
-};
-
-// Says that the file is a journal.
-const JOURNAL: Argument = Argument {
-    name: "journal",
-    help: "FILE is a journal: it has no last line, and its end may be torn",
-    ..FLAG
-};
-
-// Says that the journal is damaged.
-const FRONT: Argument = Argument {
-    name: "front",
-    help: "Only the lines before the first bad one, where the journal is damaged",
-    ..FLAG
-};
-
-// The certificate to draw in the graph.
-const PROOF: Argument = Argument {
-    name: "PROOF",
-    help: "The file of a certificate that is drawn in",
-    ..PLACE
-};

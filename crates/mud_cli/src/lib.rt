@@ -7,9 +7,11 @@
 
 mod argument;
 mod build;
+mod config;
 mod fault;
 mod form;
 mod keeping;
+mod keeping_forms;
 pub mod laws;
 mod limits;
 mod listen;
@@ -21,10 +23,16 @@ mod subject;
 mod task;
 mod words;
 
+pub use crate::build::version;
+pub use crate::config::{config_in, with_config};
 pub use crate::fault::{CommandFault, show};
 pub use crate::keeping::{Keeping, KeptFile, Wish, keeping_of};
-pub use crate::limits::{ChosenLimits, MOST_CAPACITY, MOST_PER_ADDRESS, MOST_TOTAL, MOST_WORKERS};
-pub use crate::service::{Listening, Service, WebListening, service_of};
+pub use crate::limits::{
+    ChosenLimits, ChosenRates, MOST_CAPACITY, MOST_PER_ADDRESS, MOST_RATE, MOST_TOTAL, MOST_WORKERS,
+};
+pub use crate::service::{
+    Listening, Scripting, Service, StatusListening, WebListening, service_of,
+};
 pub use crate::sources::{Sources, sources_of};
 pub use crate::subject::{Reading, Subject};
 pub use crate::task::{Opening, Task, task_of};

@@ -17,6 +17,38 @@ pub const MOST_TOTAL: u32 = 65_536;
 /// The greatest value of `--per-address`: the number of places for sessions (docs/SERVER.md).
 pub const MOST_PER_ADDRESS: u32 = 64;
 
+/// The greatest value of a rate.
+pub const MOST_RATE: u32 = 100_000;
+
+/// The rates of a server's limits; 0 means no limit.
+#[derive(Clone, Copy)]
+pub struct ChosenRates {
+    /// The number of lines of a session that are answered in a second.
+    pub lines_per_second: u32,
+    /// The number of changes that a session makes in a minute.
+    pub changes_per_minute: u32,
+    /// The number of lines of all sessions of an address that are answered in a second.
+    pub address_lines_per_second: u32,
+    /// The number of changes that all sessions of an address make in a minute.
+    pub address_changes_per_minute: u32,
+    /// The number of connections of an address that the server accepts in a minute.
+    pub connects_per_minute: u32,
+    /// The number of milliseconds in a second that the server works on the lines of a session.
+    pub work_per_second: u32,
+}
+
+// Returns the rates of the command line.
+pub(crate) fn rates_in(matches: &ArgMatches) -> Option<ChosenRates> {
+    Some(ChosenRates {
+        lines_per_second: matches.get_one::<u32>("lines-per-second")?,
+        changes_per_minute: matches.get_one::<u32>("changes-per-minute")?,
+        address_lines_per_second: matches.get_one::<u32>("address-lines-per-second")?,
+        address_changes_per_minute: matches.get_one::<u32>("address-changes-per-minute")?,
+        connects_per_minute: matches.get_one::<u32>("connects-per-minute")?,
+        work_per_second: matches.get_one::<u32>("work-per-second")?,
+    })
+}
+
 /// The number of workers of a service, and the capacity of its history.
 #[derive(Clone, Copy)]
 pub struct ChosenLimits {

@@ -3,11 +3,11 @@
 ghost use Rattle.std.specs.Prelude.{◌≤◌, IfOk, IfSome};
 ghost use Rattle.mud_cli.specs.Service.{AreWithin, IsServed};
 
-use crate::argument::{CAPACITY, WORKERS};
+use crate::argument::{Argument, CAPACITY, FLAG, LOAD, OPTION, WORKERS};
 use crate::fault::CommandFault;
 use crate::form::{Form, program_of};
-use crate::limits::{ChosenLimits, MOST_TOTAL, limits_in};
-use crate::listen::LISTEN;
+use crate::limits::{ChosenLimits, ChosenRates, MOST_TOTAL, limits_in, rates_in};
+use crate::listen::{CHECK, LISTEN};
 use crate::matches::{matches_of, unfit};
 use crate::origin::is_origin;
 use clap::error::ErrorKind;
@@ -18,9 +18,24 @@ use std::alloc::{AllocError, Global};
 #[derive(Clone, Copy)]
 pub enum Service<'a> {
     /// Answer a script.
-    Script(ChosenLimits),
+    Script(Scripting<'a>),
     /// Serve connections.
     Listen(Listening<'a>),
+}
+
+/// The options of `mud_serve script`.
+#[derive(Clone, Copy)]
+pub struct Scripting<'a> {
+    /// The options that `listen` has too.
+    pub limits: ChosenLimits,
+    /// The file of the history to continue, if there is one.
+    pub load: Option<&'a str>,
+    /// True if that file is a copy of a journal.
+    pub is_journal: bool,
+    /// The word that means the player, if there is one; otherwise the player is #1.
+    pub player: Option<&'a str>,
+    /// The file to make with the history at the script's end, if there is one.
+    pub history: Option<&'a str>,
 }
 
 /// The options of `mud_serve listen`.
@@ -49,8 +64,29 @@ pub struct Listening<'a> {
     pub load: Option<&'a str>,
     /// The file of the journal, if the server keeps one.
     pub journal: Option<&'a str>,
-    /// True if a line `stop` on standard input, or its end, ends the server.
+    /// True if standard input is a console, whose end ends the server.
     pub console: bool,
+    /// The path of the Unix socket for consoles, if there is one.
+    pub control: Option<&'a str>,
+    /// The listener for health and metrics, if there is one.
+    pub status: Option<StatusListening<'a>>,
+    /// The log file, or `None` for standard error.
+    pub log: Option<&'a str>,
+    /// The file of the bans, if they are kept.
+    pub bans: Option<&'a str>,
+    /// The rates of the limits.
+    pub rates: ChosenRates,
+    /// True if the program only prints what it would do.
+    pub is_check: bool,
+}
+
+/// The options of the listener for health and metrics.
+#[derive(Clone, Copy)]
+pub struct StatusListening<'a> {
+    /// The address of this machine to listen on.
+    pub address: &'a str,
+    /// The port; 0 picks a free port.
+    pub port: u16,
 }
 
 /// The options of the web listener.
@@ -94,10 +130,23 @@ fn has_origin(service: &Service<'_>) -> bool {
 fn service_in<'a>(matches: &ArgMatches<'a>) -> Option<Service<'a>>
     ensures { IfSome result IsServed }
 {
-    match matches.subcommand_matches("listen") {
+    match matches.subcommand_matches(LISTENING) {
         Some(listen) => Some(Service::Listen(listening_in(listen)?)),
-        None => Some(Service::Script(limits_in(matches.subcommand_matches("script")?)?)),
+        None => Some(Service::Script(scripting_in(matches.subcommand_matches("script")?)?)),
     }
+}
+
+// Returns the options of a script, if each number is within its range.
+fn scripting_in<'a>(script: &ArgMatches<'a>) -> Option<Scripting<'a>>
+    ensures { IfSome result (λ scripting. AreWithin scripting.limits) }
+{
+    Some(Scripting {
+        limits: limits_in(script)?,
+        load: script.get_str("load"),
+        is_journal: script.get_flag("recover"),
+        player: script.get_str("as"),
+        history: script.get_str("history"),
+    })
 }
 
 // Returns the options of a server, if each number is within its range.
@@ -123,6 +172,12 @@ fn listening_in<'a>(listen: &ArgMatches<'a>) -> Option<Listening<'a>>
         load: listen.get_str("load"),
         journal: listen.get_str("journal"),
         console: listen.get_flag("console"),
+        control: listen.get_str("control"),
+        status: status_in(listen),
+        log: listen.get_str("log"),
+        bans: listen.get_str("bans"),
+        rates: rates_in(listen)?,
+        is_check: listen.get_flag(CHECK),
     })
 }
 
@@ -135,21 +190,62 @@ fn web_in<'a>(listen: &ArgMatches<'a>, address: &'a str) -> Option<WebListening<
     })
 }
 
+// Returns the options of the listener for health and metrics, if it is wanted.
+fn status_in<'a>(listen: &ArgMatches<'a>) -> Option<StatusListening<'a>> {
+    Some(StatusListening {
+        address: listen.get_str("status-address")?,
+        port: listen.get_one::<u16>("status-port")?,
+    })
+}
+
 // Builds the `clap` command.
 fn command<'a>(alloc: Global) -> Result<Command<'a>, AllocError> {
     program_of(alloc, "mud_serve", "A server of text worlds", &FORMS)
 }
 
+// The name of the form for servers.
+pub(crate) const LISTENING: &str = "listen";
+
 // The forms of `mud_serve`.
-static FORMS: [Form<'static>; 2] = [
+pub(crate) static FORMS: [Form<'static>; 2] = [
     Form {
         name: "script",
-        about: "Answers the lines of standard input, as the Wizard in a world of his own",
-        arguments: &[WORKERS, CAPACITY],
+        about: "Answers the lines of standard input, as the Wizard in a new world, or as a player of a history",
+        arguments: &[SCRIPT_LOAD, RECOVER, AS, HISTORY, WORKERS, CAPACITY],
     },
     Form {
-        name: "listen",
+        name: LISTENING,
         about: "Serves players who come by Telnet or from a browser, up to 64 at once, in one world",
         arguments: &LISTEN,
     },
 ];
+
+// The history that a script continues.
+const SCRIPT_LOAD: Argument = Argument {
+    help: "The history that the script continues",
+    ..LOAD
+};
+
+// Says that the loaded file is a journal's copy.
+const RECOVER: Argument = Argument {
+    name: "recover",
+    beside: &["load"],
+    help: "FILE is a copy of a journal: it has no last line, and its end may be torn",
+    ..FLAG
+};
+
+// The player of a script.
+const AS: Argument = Argument {
+    name: "as",
+    value: &["NAME"],
+    help: "The player who types, by name or as #N; the Wizard, #1, if none is named",
+    ..OPTION
+};
+
+// The file that a script makes.
+const HISTORY: Argument = Argument {
+    name: "history",
+    value: &["FILE"],
+    help: "The file to make with the history at the end; it must not exist",
+    ..OPTION
+};

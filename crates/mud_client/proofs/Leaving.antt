@@ -23,10 +23,6 @@ use Rattle.mud_client.specs.Sayings.{AreReplies, SaysUpTo}
 snoc : {A B : Type 0} (f : A → List B) (xs : List A) (x : A) → flat_map f (xs ++ x ∷ []) ≡ flat_map f xs ++ f x
 snoc f xs x = flat_map-append f xs (x ∷ []) ∙ ap (λ (l : List _). flat_map f xs ++ l) (append-nil (f x))
 
--- output with replies and no message, and conversely
-replies_alone : (bytes : List ℕ) → bytes ++ frames_of [] ≡ bytes
-replies_alone bytes = ap (λ (l : List ℕ). bytes ++ l) frames_none ∙ append-nil bytes
-
 typed_grows : (earlier bytes : List ℕ) (fresh : List Effect) → Finishes earlier bytes fresh
     → typed_of (earlier ++ bytes) ≡ typed_of earlier ++ text_typed fresh
 typed_grows earlier bytes fresh finishes =
@@ -46,44 +42,45 @@ framed_new channel stands = record {
   leaves = refl;
 }
 
+-- one more output
+one_more : (old new : Standing) (came now typed after said sent : List ℕ) (more : Leaving)
+    → IsFramed old came typed said sent → StandsAfter new now → after ≡ typed_of now
+    → (read_all new_connection now).effects ≡ (read_all new_connection came).effects ++ more.answered
+    → IsFramed new now after (said ++ more.said) (sent ++ (replies more.answered ++ frames_of more.said))
+one_more old new came now typed after said sent more f stands types effects = record {
+  stands = stands;
+  types = types;
+  leavings = f.leavings ++ more ∷ [];
+  frames = effects ∙ ap (λ (l : List Effect). l ++ more.answered) f.frames
+      ∙ sym (snoc (λ (l : Leaving). l.answered) f.leavings more);
+  says = ap (λ (l : List ℕ). l ++ more.said) f.says ∙ sym (snoc (λ (l : Leaving). l.said) f.leavings more);
+  leaves = ap (λ (l : List ℕ). l ++ (replies more.answered ++ frames_of more.said)) f.leaves
+      ∙ sym (snoc (λ (l : Leaving). replies l.answered ++ frames_of l.said) f.leavings more);
+}
+
 -- the frames that the bytes complete are replied to
 framed_on : (old new : Standing) (came bytes typed waiting after said sent answered : List ℕ)
     → TakesIn old new bytes waiting after [] answered → IsFramed old came (typed ++ waiting) said sent
     → IsFramed new (came ++ bytes) (typed ++ after) said (sent ++ answered)
 framed_on old new came bytes typed waiting after said sent answered takes f =
     let grows = takes.grows came f.stands in
-    let more : Leaving = record { answered = grows.fresh; said = [] } in
-    record {
-      stands = takes.stands came f.stands;
-      types = ap (λ (l : List ℕ). typed ++ l) grows.types ∙ sym (append_assoc typed waiting (text_typed grows.fresh))
-          ∙ ap (λ (l : List ℕ). l ++ text_typed grows.fresh) f.types
-          ∙ sym (typed_grows came bytes grows.fresh grows.finishes);
-      leavings = f.leavings ++ more ∷ [];
-      frames = grows.finishes ∙ ap (λ (l : List Effect). l ++ grows.fresh) f.frames
-          ∙ sym (snoc (λ (l : Leaving). l.answered) f.leavings more);
-      says = f.says ∙ sym (append-nil (flat_map (λ (l : Leaving). l.said) f.leavings))
-          ∙ sym (snoc (λ (l : Leaving). l.said) f.leavings more);
-      leaves = ap (λ (l : List ℕ). sent ++ l)
-          (grows.answers ∙ append-nil (replies grows.fresh) ∙ sym (replies_alone (replies grows.fresh)))
-          ∙ ap (λ (l : List ℕ). l ++ (replies grows.fresh ++ frames_of [])) f.leaves
-          ∙ sym (snoc (λ (l : Leaving). replies l.answered ++ frames_of l.said) f.leavings more);
-    }
+    let types =
+    ap (λ (l : List ℕ). typed ++ l) grows.types ∙ sym (append_assoc typed waiting (text_typed grows.fresh))
+    ∙ ap (λ (l : List ℕ). l ++ text_typed grows.fresh) f.types
+    ∙ sym (typed_grows came bytes grows.fresh grows.finishes) in
+    let all = ap (λ (l : List ℕ). replies grows.fresh ++ l) frames_none ∙ sym grows.answers in
+    subst (λ (l : List ℕ). IsFramed new (came ++ bytes) (typed ++ after) said (sent ++ l)) all
+    (subst (λ (l : List ℕ). IsFramed new (came ++ bytes) (typed ++ after) l
+    (sent ++ (replies grows.fresh ++ frames_of []))) (append-nil said)
+    (one_more old new came (came ++ bytes) (typed ++ waiting) (typed ++ after) said sent
+    (record { answered = grows.fresh; said = [] }) f (takes.stands came f.stands) types grows.finishes))
 
 -- this is output
 framed_more : (channel : Standing) (came typed said text sent : List ℕ) → IsFramed channel came typed said sent
     → IsFramed channel came typed (said ++ text) (sent ++ frames_of text)
 framed_more channel came typed said text sent f =
-    let more : Leaving = record { answered = []; said = text } in
-    record {
-      stands = f.stands;
-      types = f.types;
-      leavings = f.leavings ++ more ∷ [];
-      frames = f.frames ∙ sym (append-nil (flat_map (λ (l : Leaving). l.answered) f.leavings))
-          ∙ sym (snoc (λ (l : Leaving). l.answered) f.leavings more);
-      says = ap (λ (l : List ℕ). l ++ text) f.says ∙ sym (snoc (λ (l : Leaving). l.said) f.leavings more);
-      leaves = ap (λ (l : List ℕ). l ++ frames_of text) f.leaves
-          ∙ sym (snoc (λ (l : Leaving). replies l.answered ++ frames_of l.said) f.leavings more);
-    }
+    one_more channel channel came came typed typed said sent (record { answered = []; said = text }) f f.stands f.types
+    (sym (append-nil (read_all new_connection came).effects))
 
 -- ---- with either framing
 
@@ -111,10 +108,16 @@ frames_more (Web channel) came typed said text sent f = framed_more channel came
 
 -- ---- the named versions
 
-pub says_framed : (framing : Framing) (most : ℕ) (text : List ℕ) → NamesUpTo most text
+says_framed : (framing : Framing) (most : ℕ) (text : List ℕ) → NamesUpTo most text
     → SaysUpTo most (framed framing text)
 says_framed Telnet most text names = inl names
 says_framed (Web channel) most text names = inr (inl (text, names, refl))
+
+pub said_names : (framing : Framing) (seen version : ℕ) (out said bytes : List ℕ) → NamesUpTo seen out → said ≡ out
+    → bytes ≡ framed framing said → version ≡ seen → SaysUpTo version bytes
+said_names framing seen version out said bytes names is as_framed long =
+    subst (λ (n : ℕ). SaysUpTo n bytes) (sym long)
+    (subst (SaysUpTo seen) (sym (as_framed ∙ ap (framed framing) is)) (says_framed framing seen out names))
 
 pub says_none : (text : List ℕ) → text ≡ [] → SaysUpTo 0 text
 says_none text is = inl (subst (NamesUpTo 0) (sym is) (names-nil 0))

@@ -1,6 +1,8 @@
 -- A client after a step.
-use Rattle.std.proofs.Common.{◌≡◌, ◌≢◌, ℕ, Bool, true, false, List, [], ◌++◌, Option, None, Some, is_some, refl}
-use Rattle.std.proofs.Common.{sym, ap, subst, ◌∙◌, append-nil, append_assoc, ◌⊎◌, inl, inr}
+use Rattle.std.proofs.Common.{◌≡◌, ℕ, Bool, true, false, ◌||◌, List, [], ◌++◌, Option, None, Some, is_some, refl}
+use Rattle.std.proofs.Common.{sym, ap, subst, ◌∙◌, append-nil, append_assoc, ◌⊎◌, inl, inr, Result, Ok, Err, OnOk}
+use Rattle.std.proofs.Common.{OnErr, ◌≢◌, length}
+use Rattle.std.specs.List.{after_first}
 use Rattle.std.proofs.Math.Logic.{∥∥₁_map}
 use Rattle.websocket.specs.declared.error.Error.{Error}
 use Rattle.mud_nvt.specs.History.{StandsAfter}
@@ -8,25 +10,23 @@ use Rattle.mud_hall.specs.Desk.{DeskState, TakesIn, as_guest}
 use Rattle.mud_session.specs.State.{SessionState, DoorState}
 use Rattle.mud_session.specs.Feeds.{Feeds, Nudges}
 use Rattle.mud_session.specs.Laws.{NamesSeen}
-use Rattle.mud_session.specs.Notices.{NamesUpTo}
 use Rattle.mud_session.specs.Talks.{IsTalk, greeting}
 use Rattle.mud_session.proofs.Naming.{begins_so, taken_so, nothing_beyond}
 use Rattle.mud_session.proofs.Talking.{talks_go_on}
 use Rattle.mud_client.specs.declared.framing.Framing.{Framing}
-use Rattle.mud_client.specs.declared.talk.Talk.{Talk}
 use Rattle.mud_client.specs.declared.outgoing.End.{End}
 use Rattle.mud_client.specs.declared.outgoing.Outgoing.{Outgoing}
 use Rattle.mud_web.specs.declared.closing.Ending.{Ending}
 use Rattle.mud_web.specs.declared.fault.Fault.{Fault}
 use Rattle.mud_web.specs.declared.fault.Fault.TheVariants.{OutOfMemory, Over, Ended}
 use Rattle.mud_web.specs.Channel.{IfOver}
-use Rattle.mud_client.specs.Framed.{IsNew, Reads, Breaks, Frames, framed, last_words, last_close}
-use Rattle.mud_client.specs.Sayings.{AreReplies, SaysUpTo}
+use Rattle.mud_client.specs.Framed.{IsNew, Breaks, Frames, framed, last_words, last_close}
+use Rattle.mud_client.specs.Sayings.{AreReplies}
 use Rattle.mud_client.specs.Client.{ClientState, state_of, Stands, IsSound}
-use Rattle.mud_client.specs.Steps.{MatchEnd, IfDone, door_of, IsFed, first_line, has_line, Comes, AnswersFrames}
-use Rattle.mud_client.specs.Steps.{AnswersLine, Steps, IsFedAll, CutsOff, Looks, Parts}
-use Rattle.mud_client.specs.inner.Talking.{FeedsLine, FeedsAll, within, silent, Says}
-use Rattle.mud_client.proofs.Leaving.{frames_new, frames_on, frames_more, says_framed, replies_broken}
+use Rattle.mud_client.specs.Steps.{MatchEnd, IfDone, door_of, IsFed, saying, ends_line, first_line, has_line}
+use Rattle.mud_client.specs.Steps.{Comes, FeedsLine, AnswersFrames, Says, Steps, IsFedAll, CutsOff, LooksFor, Looks}
+use Rattle.mud_client.specs.Steps.{Parts}
+use Rattle.mud_client.proofs.Leaving.{frames_new, frames_on, frames_more, replies_broken}
 use Rattle.mud_client.proofs.Feeding.{line_splits}
 
 -- ---- the initial state
@@ -53,23 +53,64 @@ sound_new client desk new none stands going out is goes_on = record {
   ended = goes_on ∙ sym going;
 }
 
--- ---- input
+-- ---- what a part of a step leaves
 
-read_stands : (bytes waiting answered came sent : List ℕ) (old : ClientState) (framing : Framing)
-    → Reads old.framing framing bytes old.waiting waiting answered → Stands came sent old
-    → Stands (came ++ bytes) (sent ++ answered) (record old { framing = framing; waiting = waiting })
-read_stands bytes waiting answered came sent old framing reads s = record {
-  typed = s.typed;
-  said = s.said;
-  talk = s.talk;
-  frames = frames_on old.framing framing came bytes s.typed old.waiting waiting s.said sent answered reads s.frames;
-}
-
-pub comes_stands : (bytes answered came sent : List ℕ) (old new : ClientState) → Comes bytes answered old new
+comes_stands : (bytes answered came sent : List ℕ) (old new : ClientState) → Comes bytes answered old new
     → Stands came sent old → Stands (came ++ bytes) (sent ++ answered) new
 comes_stands bytes answered came sent old new c s =
-    subst (λ (x : ClientState). Stands (came ++ bytes) (sent ++ answered) x) (sym c.same)
-    (read_stands bytes new.waiting answered came sent old new.framing c.reads s)
+    subst (Stands (came ++ bytes) (sent ++ answered)) (sym c.same) (record {
+      typed = s.typed;
+      said = s.said;
+      talk = s.talk;
+      frames = frames_on old.framing new.framing came bytes s.typed old.waiting new.waiting s.said sent answered
+          c.reads s.frames;
+    })
+
+fed_stands : (came sent : List ℕ) (old new : ClientState) → FeedsLine old new → Stands came sent old
+    → Stands came sent new
+fed_stands came sent old new f s =
+    let line : List ℕ = first_line old.waiting in
+    record {
+      typed = s.typed ++ line;
+      said = s.said;
+      talk = subst (λ (n : ℕ). IsTalk n greeting (s.typed ++ line) s.said new.session new.desk) (sym f.same.0)
+          ((talks_go_on old.capacity greeting).feeds s.typed s.said line old.session new.session (door_of old)
+          (door_of new) refl s.talk (f.feeds s.typed s.talk.stands));
+      frames = subst (λ (x : Framing). Frames x came ((s.typed ++ line) ++ new.waiting) s.said sent) (sym f.same.1)
+          (subst (λ (t : List ℕ). Frames old.framing came t s.said sent)
+          (ap (λ (l : List ℕ). s.typed ++ l)
+          (line_splits old.waiting ∙ ap (λ (l : List ℕ). line ++ l) (sym f.rest))
+          ∙ sym (append_assoc s.typed line new.waiting)) s.frames);
+    }
+
+looked_stands : (came sent : List ℕ) (old new : ClientState) → LooksFor old new → Stands came sent old
+    → Stands came sent new
+looked_stands came sent old new l s = record {
+  typed = s.typed;
+  said = s.said;
+  talk = subst (λ (x : ClientState). IsTalk x.capacity greeting s.typed s.said new.session new.desk) (sym l.same)
+      ((talks_go_on old.capacity greeting).nudges s.typed s.said old.session new.session (door_of old) (door_of new)
+      refl s.talk l.nudges);
+  frames = subst (λ (x : ClientState). Frames x.framing came (s.typed ++ x.waiting) s.said sent) (sym l.same) s.frames;
+}
+
+silent_stands : (came sent : List ℕ) (client : ClientState) → Stands came sent client
+    → Stands came (sent ++ framed client.framing client.session.out) (saying [] client)
+silent_stands came sent client s = record {
+  typed = s.typed;
+  said = s.said ++ client.session.out;
+  talk = (talks_go_on client.capacity greeting).sends s.typed s.said client.session client.desk s.talk;
+  frames = frames_more client.framing came (s.typed ++ client.waiting) s.said client.session.out sent s.frames;
+}
+
+said_stands : (came sent : List ℕ) (line : Bool) (old new : ClientState) (out : Outgoing) → Says line old new out
+    → Stands came sent old → Stands came (sent ++ out.text.text.items) new
+said_stands came sent line old new out says s =
+    subst (λ (t : List ℕ). Stands came (sent ++ t) new) (sym says.gives)
+    (subst (Stands came (sent ++ framed old.framing old.session.out)) (sym says.same)
+    (silent_stands came sent old s))
+
+-- ---- the invariant
 
 pub comes_sound : (bytes answered : List ℕ) (old new : ClientState) → Comes bytes answered old new → IsSound old
     → IsSound new
@@ -81,113 +122,60 @@ comes_sound bytes answered old new c i = record {
   ended = subst (λ (x : ClientState). x.has_ended ≡ x.session.has_ended) (sym c.same) i.ended;
 }
 
--- ---- feeding the session, or looking
+pub fed_names : (old new : ClientState) → FeedsLine old new → IsSound old → NamesSeen new.session new.desk
+fed_names old new f i =
+    (nothing_beyond old.session new.session (door_of old) (door_of new) i.names).0 (first_line old.waiting)
+    (f.feeds i.names.earlier i.names.stands)
 
-fed_stands : (line said came sent : List ℕ) (old new : ClientState) → new.capacity ≡ old.capacity
-    → new.framing ≡ old.framing → old.waiting ≡ line ++ new.waiting → IsFed line said old new → Stands came sent old
-    → Stands came sent (record new { session = record new.session { out = said } })
-fed_stands line said came sent old new capacity framing splits fed s =
-    let now : SessionState = record new.session { out = said } in
-    let talk =
-    (talks_go_on old.capacity greeting).feeds s.typed s.said line old.session now (door_of old) (door_of new) refl
-    s.talk (fed s.typed s.talk.stands) in
-    record {
-      typed = s.typed ++ line;
-      said = s.said;
-      talk = subst (λ (n : ℕ). IsTalk n greeting (s.typed ++ line) s.said now new.desk) (sym capacity) talk;
-      frames = subst (λ (f : Framing). Frames f came ((s.typed ++ line) ++ new.waiting) s.said sent) (sym framing)
-          (subst (λ (t : List ℕ). Frames old.framing came t s.said sent)
-          (ap (λ (l : List ℕ). s.typed ++ l) splits ∙ sym (append_assoc s.typed line new.waiting)) s.frames);
-    }
-
-fed_names : (line said : List ℕ) (old new : ClientState) → IsFed line said old new
-    → NamesSeen old.session old.desk → NamesSeen (record new.session { out = said }) new.desk
-fed_names line said old new fed names =
-    (nothing_beyond old.session (record new.session { out = said }) (door_of old) (door_of new) names).0 line
-    (fed names.earlier names.stands)
-
-nudged_stands : (said came sent : List ℕ) (old new : ClientState) → new.capacity ≡ old.capacity
-    → new.framing ≡ old.framing → new.waiting ≡ old.waiting
-    → Nudges TakesIn old.session (record new.session { out = said }) (door_of old) (door_of new)
-    → Stands came sent old → Stands came sent (record new { session = record new.session { out = said } })
-nudged_stands said came sent old new capacity framing waits nudges s =
-    let now : SessionState = record new.session { out = said } in
-    record {
-      typed = s.typed;
-      said = s.said;
-      talk = subst (λ (n : ℕ). IsTalk n greeting s.typed s.said now new.desk) (sym capacity)
-          ((talks_go_on old.capacity greeting).nudges s.typed s.said old.session now (door_of old) (door_of new) refl
-          s.talk
-          nudges);
-      frames = subst (λ (f : Framing). Frames f came (s.typed ++ new.waiting) s.said sent) (sym framing)
-          (subst (λ (w : List ℕ). Frames old.framing came (s.typed ++ w) s.said sent) (sym waits) s.frames);
-    }
-
--- ---- its output is returned
-
-said_stands : (came sent : List ℕ) (client : ClientState) → Stands came sent client
-    → Stands came (sent ++ framed client.framing client.session.out) (record client { session = silent client.session })
-said_stands came sent client s = record {
-  typed = s.typed;
-  said = s.said ++ client.session.out;
-  talk = (talks_go_on client.capacity greeting).sends s.typed s.said client.session client.desk s.talk;
-  frames = frames_more client.framing came (s.typed ++ client.waiting) s.said client.session.out sent s.frames;
+pub fed_sound : (old new : ClientState) → FeedsLine old new → old.has_ended ≡ false → IsSound old → IsSound new
+fed_sound old new f going i = record {
+  came = i.came;
+  sent = i.sent;
+  stands = fed_stands i.came i.sent old new f i.stands;
+  names = fed_names old new f i;
+  ended = f.ended ∙ ap (λ (b : Bool). b || new.session.has_ended) going;
 }
 
-pub said_sound : (client : ClientState) → IsSound client → IsSound (record client { session = silent client.session })
-said_sound client i = record {
+pub looked_names : (old new : ClientState) → LooksFor old new → IsSound old → NamesSeen new.session new.desk
+looked_names old new l i =
+    (nothing_beyond old.session new.session (door_of old) (door_of new) i.names).1 l.nudges
+
+pub looked_sound : (old new : ClientState) → LooksFor old new → IsSound old → IsSound new
+looked_sound old new l i = record {
+  came = i.came;
+  sent = i.sent;
+  stands = looked_stands i.came i.sent old new l i.stands;
+  names = looked_names old new l i;
+  ended = ap (λ (x : ClientState). x.has_ended) l.same ∙ i.ended
+      ∙ sym (ap (λ (s : SessionState). s.has_ended) l.nudges.is);
+}
+
+pub silent_sound : (client : ClientState) → IsSound client → IsSound (saying [] client)
+silent_sound client i = record {
   came = i.came;
   sent = i.sent ++ framed client.framing client.session.out;
-  stands = said_stands i.came i.sent client i.stands;
-  names = taken_so client.session (silent client.session) client.desk i.names refl;
+  stands = silent_stands i.came i.sent client i.stands;
+  names = taken_so client.session (saying [] client).session client.desk i.names refl;
   ended = i.ended;
 }
 
--- ---- in the definitions' terms: a step continues the client's state
+pub silent_kept : (client : ClientState) (framing : Framing) (session : SessionState) → framing ≡ client.framing
+    → session ≡ (saying [] client).session → ∥ (client.has_ended ≡ false → IsSound client) ∥₁
+    → ∥ (client.has_ended ≡ false → IsSound (record client { framing = framing; session = session })) ∥₁
+silent_kept client framing session same is sound =
+    ∥∥₁_map sound (λ i going.
+    subst (λ (f : Framing). IsSound (record client { framing = f; session = session })) (sym same)
+    (subst (λ (s : SessionState). IsSound (record client { session = s })) (sym is) (silent_sound client (i going))))
 
-emptied : (session : SessionState) → session.out ≡ [] → silent session ≡ session
-emptied session none = ap (λ (o : List ℕ). record session { out = o }) (sym none)
+pub given_sound : (end : Option End) (client : ClientState) (ended : Bool) → ended ≡ is_some end
+    → (end ≡ None → client.has_ended ≡ false) → ∥ (client.has_ended ≡ false → IsSound client) ∥₁
+    → ∥ (ended ≡ false → IsSound (record client { has_ended = ended })) ∥₁
+given_sound (Some e) client ended is goes sound = ∣ (λ going. absurd (cc)) ∣₁
+given_sound None client ended is goes sound =
+    ∥∥₁_map sound (λ i going.
+    subst (λ (b : Bool). IsSound (record client { has_ended = b })) (goes refl ∙ sym is) (i (goes refl)))
 
-line_stands : (came sent : List ℕ) (old new : ClientState) (out : Outgoing) → AnswersLine old new out
-    → Stands came sent old → Stands came (sent ++ out.text.text.items) new
-line_stands came sent old new out a s =
-    let fed = fed_stands (first_line old.waiting) a.said came sent old new a.capacity a.framing
-    (line_splits old.waiting ∙ ap (λ (l : List ℕ). first_line old.waiting ++ l) (sym a.rest)) a.feeds s in
-    let told = said_stands came sent (record new { session = record new.session { out = a.said } }) fed in
-    subst (λ (t : List ℕ). Stands came (sent ++ t) new)
-    (ap (λ (f : Framing). framed f a.said) a.framing ∙ sym a.gives)
-    (subst (λ (n : SessionState). Stands came (sent ++ framed new.framing a.said) (record new { session = n }))
-    (emptied new.session a.told) told)
-
-given_stands : (came sent answered : List ℕ) (mid new : ClientState) (out : Outgoing)
-    → AnswersFrames answered mid new out ⊎ ((answered ≡ []) × AnswersLine mid new out)
-    → Stands came (sent ++ answered) mid → Stands came (sent ++ out.text.text.items) new
-given_stands came sent answered mid new out (inl a) s =
-    subst (λ (t : List ℕ). Stands came (sent ++ t) new) (sym a.gives)
-    (subst (λ (x : ClientState). Stands came (sent ++ answered) x) (sym a.same) s)
-given_stands came sent answered mid new out (inr (none, a)) s =
-    line_stands came sent mid new out a
-    (subst (λ (t : List ℕ). Stands came t mid) (ap (λ (l : List ℕ). sent ++ l) none ∙ append-nil sent) s)
-
-steps_stand : (bytes came sent : List ℕ) (old new : ClientState) (out : Outgoing) → Steps bytes old new out
-    → Stands came sent old → Stands (came ++ bytes) (sent ++ out.text.text.items) new
-steps_stand bytes came sent old new out step s =
-    given_stands (came ++ bytes) sent step.answered step.mid new out step.gives
-    (comes_stands bytes step.answered came sent old step.mid step.comes s)
-
-looks_stand : (came sent : List ℕ) (old new : ClientState) (out : Outgoing) → Looks old new out
-    → Stands came sent old → Stands came (sent ++ out.text.text.items) new
-looks_stand came sent old new out l s =
-    let framing = ap (λ (x : ClientState). x.framing) l.same in
-    let looked = nudged_stands l.said came sent old new (ap (λ (x : ClientState). x.capacity) l.same) framing
-    (ap (λ (x : ClientState). x.waiting) l.same) l.nudges s in
-    let told = said_stands came sent (record new { session = record new.session { out = l.said } }) looked in
-    subst (λ (t : List ℕ). Stands came (sent ++ t) new)
-    (ap (λ (f : Framing). framed f l.said) framing ∙ sym l.gives)
-    (subst (λ (n : SessionState). Stands came (sent ++ framed new.framing l.said) (record new { session = n }))
-    (emptied new.session l.told) told)
-
--- ---- the end of a step
+-- ---- a whole step
 
 pub match_end : {P Q R S : Type 0} {F G : Error → Type 0} (end : Option End) → (P → Q)
     → ((e : Error) → end ≡ Some (End.Over e) → F e → G e) → (R → S) → MatchEnd end P F R → MatchEnd end Q G S
@@ -198,46 +186,68 @@ match_end (Some End.OutOfMemory) done over refused m = refused m
 match_end (Some End.NotText) done over refused m = refused m
 match_end (Some End.Earlier) done over refused m = refused m
 
-if_done : (P Q R : Type 0) (F : Error → Type 0) (end : Option End) → (P → Q) → MatchEnd end P F R → IfDone end Q
-if_done P Q R F end done m = match_end end done (λ e is f. tt) (λ r. tt) m
-
 -- a step whose output is the replies to frames
 pub frames_step : (bytes replies : List ℕ) (old mid new : ClientState) (out : Outgoing)
-    → Comes bytes replies old mid → replies ≢ [] → new ≡ mid → out.text.text.items ≡ replies
-    → out.text.version ≡ 0 → out.has_line ≡ false → Steps bytes old new out
-frames_step bytes replies old mid new out comes some same gives version line = record {
+    → Comes bytes replies old mid → replies ≢ [] → mid.has_ended ≡ false → new ≡ record mid { has_ended = false }
+    → out.text.text.items ≡ replies → out.text.version ≡ 0 → out.has_line ≡ false → Steps bytes old new out
+frames_step bytes replies old mid new out comes some going is gives version line = record {
   answered = replies;
   mid = mid;
   comes = comes;
-  gives = inl (record { some = some; same = same; gives = gives; version = version; line = line });
+  gives = inl (record {
+    some = some;
+    same = is ∙ ap (λ (b : Bool). record mid { has_ended = b }) (sym going);
+    gives = gives;
+    version = version;
+    line = line;
+  });
 }
 
 -- a step that answers the first waiting line
-pub line_step : (bytes replies : List ℕ) (old mid new : ClientState) (out : Outgoing)
-    → Comes bytes replies old mid → replies ≡ []
-    → MatchEnd out.end (AnswersLine mid new out) (λ error. ⊥) (out.text.text.items ≡ [])
+pub line_step : (bytes replies : List ℕ) (line : Bool) (old mid fed new : ClientState) (out : Outgoing)
+    → Comes bytes replies old mid → replies ≡ [] → FeedsLine mid fed → line ≡ has_line mid.waiting
+    → MatchEnd out.end (Says line fed new out) (λ error. ⊥) (out.text.text.items ≡ [])
     → MatchEnd out.end (Steps bytes old new out) (λ error. CutsOff bytes error old new out) (out.text.text.items ≡ [])
-line_step bytes replies old mid new out comes none m =
+line_step bytes replies line old mid fed new out comes none feeds has says =
     match_end out.end
-    (λ line. record { answered = replies; mid = mid; comes = comes; gives = inr (none, line) })
-    (λ e is over. absurd over) (λ undone. undone) m
+    (λ said. record {
+      answered = replies;
+      mid = mid;
+      comes = comes;
+      gives = inr (none, fed, feeds, subst (λ (b : Bool). Says b fed new out) has said);
+    }) (λ e is over. absurd over) (λ undone. undone) says
+
+given_stands : (came sent answered : List ℕ) (mid new : ClientState) (out : Outgoing)
+    → AnswersFrames answered mid new out
+    ⊎ ((answered ≡ []) × (fed : ClientState) × FeedsLine mid fed × Says (has_line mid.waiting) fed new out)
+    → Stands came (sent ++ answered) mid → Stands came (sent ++ out.text.text.items) new
+given_stands came sent answered mid new out (inl a) s =
+    subst (λ (t : List ℕ). Stands came (sent ++ t) new) (sym a.gives)
+    (subst (Stands came (sent ++ answered)) (sym a.same) s)
+given_stands came sent answered mid new out (inr (none, fed, feeds, says)) s =
+    said_stands came sent _ fed new out says (fed_stands came sent mid fed feeds
+    (subst (λ (t : List ℕ). Stands came t mid) (ap (λ (l : List ℕ). sent ++ l) none ∙ append-nil sent) s))
 
 pub step_stands : (bytes came sent : List ℕ) (old new : ClientState) (out : Outgoing)
     → MatchEnd out.end (Steps bytes old new out) (λ error. CutsOff bytes error old new out) (out.text.text.items ≡ [])
     → Stands came sent old → IfDone out.end (Stands (came ++ bytes) (sent ++ out.text.text.items) new)
 step_stands bytes came sent old new out m s =
-    if_done _ _ _ _ out.end (λ step. steps_stand bytes came sent old new out step s) m
+    match_end out.end
+    (λ step. given_stands (came ++ bytes) sent step.answered step.mid new out step.gives
+    (comes_stands bytes step.answered came sent old step.mid step.comes s)) (λ e is f. tt) (λ r. tt) m
 
 pub look_stands : (came sent : List ℕ) (old new : ClientState) (out : Outgoing)
     → MatchEnd out.end (Looks old new out) (λ error. ⊥) (out.text.text.items ≡ []) → Stands came sent old
     → IfDone out.end (Stands came (sent ++ out.text.text.items) new)
 look_stands came sent old new out m s =
-    if_done _ _ _ _ out.end (λ looks. looks_stand came sent old new out looks s) m
+    match_end out.end
+    (λ looks. said_stands came sent false looks.0 new out looks.2 (looked_stands came sent old looks.0 looks.1 s))
+    (λ e is f. tt) (λ r. tt) m
 
 -- ---- in the code's terms
 
 -- a door is determined by its desk and the capacity of the history
-fed_at : (line earlier : List ℕ) (old new : SessionState) (was is : DoorState) (capacity : ℕ)
+pub fed_at : (line earlier : List ℕ) (old new : SessionState) (was is : DoorState) (capacity : ℕ)
     → Feeds TakesIn earlier line old new was is
     → Feeds TakesIn earlier line old new (record was { pending = [] })
     (record { capacity = capacity; desk = is.desk; pending = [] })
@@ -252,220 +262,164 @@ fed_at line earlier old new was is capacity f = record {
   out = f.out;
 }
 
-nudged_at : (old new : SessionState) (was is : DoorState) (capacity : ℕ) → Nudges TakesIn old new was is
+pub nudged_at : (old new : SessionState) (was is : DoorState) (capacity : ℕ) → Nudges TakesIn old new was is
     → Nudges TakesIn old new (record was { pending = [] })
     (record { capacity = capacity; desk = is.desk; pending = [] })
 nudged_at old new was is capacity n = record { lines = n.lines; looks = n.looks; goes_on = n.goes_on; is = n.is }
 
--- the client at its seat is the client
-pub seated : (capacity : ℕ) (talk : Talk) (desk : DeskState) (has_ended : Bool) (pending : List (List ℕ))
-    (seat : DoorState) → seat ≡ record { capacity = capacity; desk = desk; pending = pending } → has_ended ≡ false
-    → within talk seat false ≡ state_of capacity talk desk has_ended
-seated capacity talk desk has_ended pending seat is going =
-    ap (λ (s : DoorState). within talk s false) is ∙ ap (λ (b : Bool). state_of capacity talk desk b) (sym going)
-
--- the first line was fed
-pub line_sound : (old new : Talk) (was is : DoorState) → is.capacity ≡ was.capacity
-    → FeedsLine TakesIn old new was is → IsSound (within old was false)
-    → IsSound (within new is new.session.has_ended)
-line_sound old new was is same f i =
-    let before : ClientState = within old was false in
-    let after : ClientState = within new is new.session.has_ended in
-    let fed = λ (earlier : List ℕ) (stands : StandsAfter old.session.terminal earlier).
-    fed_at (first_line old.waiting.items) earlier old.session new.session was is is.capacity
-    (f.feeding.feeds earlier stands) in
-    record {
-      came = i.came;
-      sent = i.sent;
-      stands = fed_stands (first_line old.waiting.items) new.session.out i.came i.sent before after same
-          f.feeding.framing f.feeding.splits fed i.stands;
-      names = fed_names (first_line old.waiting.items) new.session.out before after fed i.names;
-      ended = refl;
+pub fed_line : (capacity : ℕ) (framing : Framing) (waiting rest line : List ℕ) (old new : SessionState)
+    (desk after : DeskState) (pending : List (List ℕ)) (was is : DoorState) (before ended : Bool)
+    → was ≡ record { capacity = capacity; desk = desk; pending = pending } → after ≡ is.desk
+    → line ≡ first_line waiting → rest ≡ after_first ends_line waiting → ended ≡ (before || new.has_ended)
+    → ((earlier : List ℕ) → StandsAfter old.terminal earlier → Feeds TakesIn earlier line old new was is)
+    → FeedsLine (state_of capacity framing waiting old desk before)
+    (state_of capacity framing rest new after ended)
+fed_line capacity framing waiting rest line old new desk after pending was is before ended sits leaves first is_rest
+    ends feeds = record {
+      feeds = λ earlier stands.
+          subst (λ (l : List ℕ). Feeds TakesIn earlier l old new
+          (record { capacity = capacity; desk = desk; pending = [] })
+          (record { capacity = capacity; desk = after; pending = [] })) first
+          (subst (λ (d : DeskState). Feeds TakesIn earlier line old new
+          (record { capacity = capacity; desk = desk; pending = [] })
+          (record { capacity = capacity; desk = d; pending = [] })) (sym leaves)
+          (subst (λ (w : DoorState). Feeds TakesIn earlier line old new (record w { pending = [] })
+          (record { capacity = capacity; desk = is.desk; pending = [] })) sits
+          (fed_at line earlier old new was is capacity (feeds earlier stands))));
+      same = (refl, refl);
+      rest = is_rest;
+      ended = ends;
     }
 
-pub line_said : (old new : Talk) (was is : DoorState) (line : Bool) (client : ClientState) (out : Outgoing)
-    → is.capacity ≡ was.capacity → FeedsLine TakesIn old new was is → line ≡ has_line old.waiting.items
-    → Says line (within new is new.session.has_ended) client out → AnswersLine (within old was false) client out
-line_said old new was is line client out same f ends says =
-    subst (λ (x : ClientState). AnswersLine (within old was false) x out) (sym says.same) (record {
-      capacity = same;
-      framing = f.feeding.framing;
-      rest = f.rest;
-      said = new.session.out;
-      feeds = λ earlier stands. fed_at (first_line old.waiting.items) earlier old.session new.session was is
-          is.capacity (f.feeding.feeds earlier stands);
-      told = refl;
-      gives = says.gives ∙ ap (λ (x : Framing). framed x new.session.out) f.feeding.framing;
-      version = says.version;
-      line = says.has_line ∙ ends;
-      ended = refl;
-    })
+pub looked_at : (capacity : ℕ) (framing : Framing) (waiting : List ℕ) (old new : SessionState)
+    (desk after : DeskState) (pending : List (List ℕ)) (was is : DoorState) (before ended : Bool)
+    → was ≡ record { capacity = capacity; desk = desk; pending = pending } → after ≡ is.desk → ended ≡ before
+    → Nudges TakesIn old new was is
+    → LooksFor (state_of capacity framing waiting old desk before) (state_of capacity framing waiting new after ended)
+looked_at capacity framing waiting old new desk after pending was is before ended sits leaves ends nudges = record {
+  nudges =
+      subst (λ (d : DeskState). Nudges TakesIn old new (record { capacity = capacity; desk = desk; pending = [] })
+      (record { capacity = capacity; desk = d; pending = [] })) (sym leaves)
+      (subst (λ (w : DoorState). Nudges TakesIn old new (record w { pending = [] })
+      (record { capacity = capacity; desk = is.desk; pending = [] })) sits
+      (nudged_at old new was is capacity nudges));
+  same = ap (λ (b : Bool). state_of capacity framing waiting new after b) ends;
+}
 
--- the session looked
-pub look_sound : (talk : Talk) (session : SessionState) (was is : DoorState)
-    → is.capacity ≡ was.capacity → Nudges TakesIn talk.session session was is → IsSound (within talk was false)
-    → IsSound (within (record talk { session = session }) is session.has_ended)
-look_sound talk session was is same n i =
-    let before : ClientState = within talk was false in
-    let after : ClientState = within (record talk { session = session }) is session.has_ended in
-    let nudges = nudged_at talk.session session was is is.capacity n in
-    record {
-      came = i.came;
-      sent = i.sent;
-      stands = nudged_stands session.out i.came i.sent before after same refl refl nudges i.stands;
-      names = (nothing_beyond talk.session session (door_of before) (door_of after) i.names).1 nudges;
-      ended = refl;
-    }
+neither : (a b : Bool) → (a || b) ≡ false → a ≡ false
+neither true b none = none
+neither false b none = refl
 
-pub look_said : (talk : Talk) (session : SessionState) (was is : DoorState) (client : ClientState) (out : Outgoing)
-    → is.capacity ≡ was.capacity → Nudges TakesIn talk.session session was is
-    → Says false (within (record talk { session = session }) is session.has_ended) client out
-    → Looks (within talk was false) client out
-look_said talk session was is client out same n says =
-    let going : session.has_ended ≡ false = ap (λ (s : SessionState). s.has_ended) n.is ∙ n.goes_on in
-    subst (λ (x : ClientState). Looks (within talk was false) x out) (sym says.same) (record {
-      said = session.out;
-      nudges = nudged_at talk.session session was is is.capacity n;
-      told = refl;
-      same = ap (λ (c : ℕ). record (within (record talk { session = silent session }) is session.has_ended) {
-        capacity = c;
-      }) same
-          ∙ ap (λ (b : Bool). within (record talk { session = silent session }) (record is { capacity = was.capacity })
-          b) going;
-      gives = says.gives;
-      version = says.version;
-      line = says.has_line;
-    })
+ended_too : (a b : Bool) → b ≡ true → (a || b) ≡ true
+ended_too true b ended = refl
+ended_too false b ended = ended
 
--- all waiting lines were fed
-pub all_fed : (old new : Talk) (was is : DoorState) (client : ClientState) (has_ended : Bool)
-    → FeedsAll TakesIn old new was is → client ≡ within new is has_ended → IsFedAll (within old was false) client
-all_fed old new was is client has_ended f same =
-    subst (λ (x : ClientState). IsFedAll (within old was false) x) (sym same) (record {
-      done = f.done;
-      splits = f.feeding.splits;
-      all = f.all;
-      said = f.said;
-      feeds = λ earlier stands. fed_at f.done earlier old.session (record new.session { out = f.said }) was is
-          is.capacity (f.feeding.feeds earlier stands);
-    })
+-- the invariant after a line was fed, or was not
+pub fed_kept : {E : Type 0} (r : Result (Unit {0}) E) (old new : ClientState) → OnOk r (FeedsLine old new)
+    → OnErr r (new.session.has_ended ≡ true) → new.has_ended ≡ (old.has_ended || new.session.has_ended)
+    → ∥ (old.has_ended ≡ false → IsSound old) ∥₁ → ∥ (new.has_ended ≡ false → IsSound new) ∥₁
+fed_kept (Ok x) old new fed err ends sound =
+    ∥∥₁_map sound (λ i going.
+    let was : old.has_ended ≡ false = neither old.has_ended new.session.has_ended (sym ends ∙ going) in
+    fed_sound old new fed was (i was))
+fed_kept (Err e) old new fed err ends sound =
+    let ended : new.has_ended ≡ true = ends ∙ ended_too old.has_ended new.session.has_ended err in
+    ∣ (λ going. absurd (cc (ended, going))) ∣₁
 
--- ---- the last output
+pub fed_names_at : (old new : ClientState) → FeedsLine old new → ∥ (old.has_ended ≡ false → IsSound old) ∥₁
+    → old.has_ended ≡ false → ∥ NamesSeen new.session new.desk ∥₁
+fed_names_at old new fed sound going = ∥∥₁_map sound (λ i. fed_names old new fed (i going))
+
+-- the invariant after a look, or none
+pub looked_kept : {E : Type 0} (r : Result (Unit {0}) E) (old new : ClientState) → OnOk r (LooksFor old new)
+    → OnErr r (new.has_ended ≡ true) → old.has_ended ≡ false → ∥ (old.has_ended ≡ false → IsSound old) ∥₁
+    → ∥ (new.has_ended ≡ false → IsSound new) ∥₁
+looked_kept (Ok x) old new looked err going sound = ∥∥₁_map sound (λ i still. looked_sound old new looked (i going))
+looked_kept (Err e) old new looked err going sound = ∣ (λ still. absurd (cc (err, still))) ∣₁
+
+pub on_ok : {E : Type 0} {P Q : Type 0} (r : Result (Unit {0}) E) → OnOk r P → (P → Q) → OnOk r Q
+on_ok (Ok x) p f = f p
+on_ok (Err e) p f = tt
+
+-- the output of the session
+pub says_so : (line : Bool) (end : Option End) (old : ClientState) (framing : Framing) (session : SessionState)
+    (new : ClientState) (out : Outgoing) → framing ≡ old.framing → session ≡ (saying [] old).session
+    → new ≡ record old { framing = framing; session = session; has_ended = is_some end }
+    → is_some end ≡ old.has_ended → out.text.text.items ≡ framed old.framing old.session.out
+    → out.text.version ≡ length old.desk.seen → out.has_line ≡ line → Says line old new out
+says_so line end old framing session new out same silent is ended gives version ends = record {
+  same = is ∙ ap (λ (f : Framing). record old { framing = f; session = session; has_ended = is_some end }) same
+      ∙ ap (λ (s : SessionState). record old { session = s; has_ended = is_some end }) silent
+      ∙ ap (λ (b : Bool). record (saying [] old) { has_ended = b }) ended;
+  gives = gives;
+  version = version;
+  ends = ends;
+}
+
+pub said_end : (P R : Type 0) (F : Error → Type 0) (end given : Option End) → given ≡ end
+    → (end ≡ Some End.Quit) ⊎ (end ≡ None) → P → MatchEnd given P F R
+said_end P R F end given is (inl quit) p =
+    subst (λ (e : Option End). MatchEnd e P F R) (sym (is ∙ quit)) p
+said_end P R F end given is (inr none) p =
+    subst (λ (e : Option End). MatchEnd e P F R) (sym (is ∙ none)) p
+
+-- the last output
+said_so : (none said words : List ℕ) → none ≡ [] → (said ≡ none ++ words) ⊎ (said ≡ none)
+    → (said ≡ words) ⊎ (said ≡ [])
+said_so none said words nothing (inl is) = inl (is ∙ ap (λ (l : List ℕ). l ++ words) nothing)
+said_so none said words nothing (inr is) = inr (is ∙ nothing)
 
 pub parted : (line none said text : List ℕ) (ending : Option Ending) (mid : Framing) (old new : ClientState)
     → none ≡ [] → mid ≡ old.framing → new ≡ record old { framing = new.framing; has_ended = true }
     → (said ≡ none ++ last_words old.framing line) ⊎ (said ≡ none)
     → (text ≡ said ++ last_close mid ending) ⊎ (text ≡ said) → Parts line ending old new text
-parted line none said text ending mid old new nothing same is (inl words) (inl close) = record {
-  words = last_words old.framing line;
-  says = inl refl;
-  close = last_close old.framing ending;
-  closes = inl refl;
-  is = close ∙ ap (λ (f : Framing). said ++ last_close f ending) same
-      ∙ ap (λ (l : List ℕ). l ++ last_close old.framing ending)
-      (words ∙ ap (λ (l : List ℕ). l ++ last_words old.framing line) nothing);
+parted line none said text ending mid old new nothing same is words (inl close) = record {
+  words = said;
+  says = said_so none said (last_words old.framing line) nothing words;
+  close = last_close mid ending;
+  closes = inl (ap (λ (f : Framing). last_close f ending) same);
+  is = close;
   same = is;
 }
-parted line none said text ending mid old new nothing same is (inr words) (inl close) = record {
-  words = [];
-  says = inr refl;
-  close = last_close old.framing ending;
-  closes = inl refl;
-  is = close ∙ ap (λ (f : Framing). said ++ last_close f ending) same
-      ∙ ap (λ (l : List ℕ). l ++ last_close old.framing ending) (words ∙ nothing);
-  same = is;
-}
-parted line none said text ending mid old new nothing same is (inl words) (inr close) = record {
-  words = last_words old.framing line;
-  says = inl refl;
+parted line none said text ending mid old new nothing same is words (inr close) = record {
+  words = said;
+  says = said_so none said (last_words old.framing line) nothing words;
   close = [];
   closes = inr refl;
-  is = close ∙ words ∙ ap (λ (l : List ℕ). l ++ last_words old.framing line) nothing
-      ∙ sym (append-nil (last_words old.framing line));
+  is = close ∙ sym (append-nil said);
   same = is;
 }
-parted line none said text ending mid old new nothing same is (inr words) (inr close) = record {
-  words = [];
-  says = inr refl;
-  close = [];
-  closes = inr refl;
-  is = close ∙ words ∙ nothing;
-  same = is;
-}
-
--- ---- a step
-
--- a client that has not ended is sound
-pub ended_sound : (end : Option End) (talk : Talk) (seat : DoorState) (capacity : ℕ) (desk : DeskState)
-    (has_ended : Bool) → has_ended ≡ is_some end → seat.capacity ≡ capacity → desk ≡ seat.desk
-    → (end ≡ None → ∥ IsSound (within talk seat false) ∥₁)
-    → ∥ (has_ended ≡ false → IsSound (state_of capacity talk desk has_ended)) ∥₁
-ended_sound (Some e) talk seat capacity desk has_ended is same sits sound = ∣ (λ going. absurd (cc)) ∣₁
-ended_sound None talk seat capacity desk has_ended is same sits sound =
-    ∥∥₁_map (sound refl) (λ i. (λ going.
-    subst (λ (b : Bool). IsSound (state_of capacity talk desk b)) (sym is)
-    (subst (λ (d : DeskState). IsSound (state_of capacity talk d false)) (sym sits)
-    (subst (λ (n : ℕ). IsSound (state_of n talk seat.desk false)) same i))))
-
--- the output names no version beyond the entries that the desk has seen
-pub said_names : (framing : Framing) (seen version : ℕ) (out said bytes : List ℕ) → NamesUpTo seen out → said ≡ out
-    → bytes ≡ framed framing said → version ≡ seen → SaysUpTo version bytes
-said_names framing seen version out said bytes names is framing_is long =
-    subst (λ (n : ℕ). SaysUpTo n bytes) (sym long)
-    (subst (SaysUpTo seen) (sym (framing_is ∙ ap (framed framing) is)) (says_framed framing seen out names))
-
--- after the output was returned
-pub said_within : (talk now : Talk) (seat : DoorState) → now.framing ≡ talk.framing → now.session ≡ silent talk.session
-    → now.waiting ≡ talk.waiting → talk.session.has_ended ≡ false
-    → IsSound (within talk seat talk.session.has_ended) → IsSound (within now seat false)
-said_within talk now seat framing session waiting going i =
-    let told = said_sound (within talk seat talk.session.has_ended) i in
-    subst (λ (b : Bool). IsSound (within now seat b)) going
-    (subst (λ (f : Framing). IsSound (record (within now seat talk.session.has_ended) { framing = f })) (sym framing)
-    (subst (λ (s : SessionState). IsSound (record (within now seat talk.session.has_ended) {
-      framing = talk.framing;
-      session = s;
-    })) (sym session)
-    (subst (λ (w : List ℕ). IsSound (record (within talk seat talk.session.has_ended) {
-      session = silent talk.session;
-      waiting = w;
-    })) (sym (ap (λ v. v.items) waiting)) told)))
-
--- the invariant of a client that has not ended
-pub sound_here : (has_ended : Bool) (state client : ClientState) → has_ended ≡ false → state ≡ client
-    → ∥ (has_ended ≡ false → IsSound state) ∥₁ → ∥ IsSound client ∥₁
-sound_here has_ended state client going here sound =
-    ∥∥₁_map sound (λ i. subst IsSound here (i going))
 
 -- frames ended it
-pub cut_so : (bytes replies : List ℕ) (fault : Fault) (error : Error) (old mid new : ClientState) (out : Outgoing)
-    → IfOver fault (Breaks old.framing bytes old.waiting mid.waiting replies) → fault ≡ Over error
-    → out.text.text.items ≡ replies → mid.session ≡ old.session → door_of mid ≡ door_of old → IsFedAll mid new
-    → CutsOff bytes error old new out
-cut_so bytes replies fault error old mid new out breaks is given session door fed = record {
-  typed = mid.waiting;
-  breaks = subst (λ (l : List ℕ). Breaks old.framing bytes old.waiting mid.waiting l error) (sym given)
-      (subst (λ (f : Fault). IfOver f (Breaks old.framing bytes old.waiting mid.waiting replies)) is breaks);
+pub cut_so : (bytes replies : List ℕ) (fault : Fault) (error : Error) (old cut new : ClientState) (out : Outgoing)
+    → cut ≡ record old { framing = cut.framing; waiting = cut.waiting; has_ended = cut.has_ended }
+    → IfOver fault (Breaks old.framing bytes old.waiting cut.waiting replies) → fault ≡ Over error
+    → out.text.text.items ≡ replies → IsFedAll cut new → CutsOff bytes error old new out
+cut_so bytes replies fault error old cut new out same breaks is given fed = record {
+  typed = cut.waiting;
+  breaks = subst (λ (l : List ℕ). Breaks old.framing bytes old.waiting cut.waiting l error) (sym given)
+      (subst (λ (f : Fault). IfOver f (Breaks old.framing bytes old.waiting cut.waiting replies)) is breaks);
   fed = record {
     done = fed.done;
     splits = fed.splits;
     all = fed.all;
     said = fed.said;
-    feeds = λ earlier stands.
-        subst (λ (d : DoorState). Feeds TakesIn earlier fed.done old.session (record new.session { out = fed.said }) d
-        (door_of new)) door
-        (subst (λ (s : SessionState). Feeds TakesIn earlier fed.done s (record new.session { out = fed.said })
-        (door_of mid) (door_of new)) session
-        (fed.feeds earlier (subst (λ (s : SessionState). StandsAfter s.terminal earlier) (sym session) stands)));
+    feeds = subst (λ (x : ClientState). IsFed fed.done x (saying fed.said new)) same fed.feeds;
   };
 }
 
-pub broken_replies : (fault : Fault) (talk : Talk) (seat : DoorState) (bytes typed replies : List ℕ)
-    → IfOver fault (Breaks talk.framing bytes talk.waiting.items typed replies)
-    → ∥ IsSound (within talk seat false) ∥₁ → IfOver fault (λ error. ∥ AreReplies replies ∥₁)
-broken_replies OutOfMemory talk seat bytes typed replies breaks sound = tt
-broken_replies Ended talk seat bytes typed replies breaks sound = tt
-broken_replies (Over error) talk seat bytes typed replies breaks sound =
+pub fed_all : (old fed new : ClientState) (has_ended : Bool) → new ≡ record fed { has_ended = has_ended }
+    → IsFedAll old fed → IsFedAll old new
+fed_all old fed new has_ended is f =
+    subst (IsFedAll old) (sym is)
+    (record { done = f.done; splits = f.splits; all = f.all; said = f.said; feeds = f.feeds })
+
+pub broken_replies : (fault : Fault) (client : ClientState) (bytes typed replies : List ℕ)
+    → IfOver fault (Breaks client.framing bytes client.waiting typed replies) → ∥ IsSound client ∥₁
+    → IfOver fault (λ error. ∥ AreReplies replies ∥₁)
+broken_replies OutOfMemory client bytes typed replies breaks sound = tt
+broken_replies Ended client bytes typed replies breaks sound = tt
+broken_replies (Over error) client bytes typed replies breaks sound =
     ∥∥₁_map sound (λ i.
-    replies_broken talk.framing i.came bytes (i.stands.typed ++ talk.waiting.items) talk.waiting.items typed
+    replies_broken client.framing i.came bytes (i.stands.typed ++ client.waiting) client.waiting typed
     i.stands.said i.sent replies error breaks i.stands.frames)

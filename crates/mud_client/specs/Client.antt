@@ -5,7 +5,6 @@ use Rattle.mud_session.specs.State.{SessionState}
 use Rattle.mud_session.specs.Laws.{NamesSeen}
 use Rattle.mud_session.specs.Talks.{IsTalk, greeting}
 use Rattle.mud_client.specs.declared.framing.Framing.{Framing}
-use Rattle.mud_client.specs.declared.talk.Talk.{Talk}
 use Rattle.mud_client.specs.Framed.{Frames}
 
 -- a client: the capacity of the history, the framing, the waiting text, its session, its desk, and whether it has ended
@@ -17,15 +16,9 @@ pub record ClientState : Type 0 where
   pub desk : DeskState
   pub has_ended : Bool
 
-abbrev pub state_of : ℕ → Talk → DeskState → Bool → ClientState
-state_of capacity talk desk has_ended = record {
-  capacity = capacity;
-  framing = talk.framing;
-  waiting = talk.waiting.items;
-  session = talk.session;
-  desk = desk;
-  has_ended = has_ended;
-}
+abbrev pub state_of : ℕ → Framing → List ℕ → SessionState → DeskState → Bool → ClientState
+state_of n f waiting s d has_ended =
+    record { capacity = n; framing = f; waiting = waiting; session = s; desk = d; has_ended = has_ended }
 
 -- a client that received these bytes and sent those. Its session received exactly the typed text, up to the waiting
 -- part. Its greeting and the text of the turns played at its desk are the output sent, framed, with the replies to the

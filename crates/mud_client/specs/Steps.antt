@@ -10,7 +10,7 @@ use Rattle.mud_hall.specs.Desk.{TakesIn}
 use Rattle.mud_session.specs.State.{DoorState}
 use Rattle.mud_session.specs.Feeds.{Feeds, Nudges}
 use Rattle.mud_client.specs.declared.outgoing.End.{End}
-use Rattle.mud_client.specs.declared.outgoing.End.TheVariants.{Quit, OutOfMemory, Over, NotText, Earlier}
+use Rattle.mud_client.specs.declared.outgoing.End.TheVariants.{Quit, Over}
 use Rattle.mud_client.specs.declared.outgoing.Outgoing.{Outgoing}
 use Rattle.mud_client.specs.Framed.{Reads, Breaks, framed, last_words, last_close}
 use Rattle.mud_client.specs.Client.{ClientState}
@@ -23,9 +23,7 @@ abbrev pub MatchEnd : Option End → (done : Type 0) → (over : Error → Type 
 MatchEnd None done over refused = done
 MatchEnd (Some Quit) done over refused = done
 MatchEnd (Some (Over error)) done over refused = over error
-MatchEnd (Some OutOfMemory) done over refused = refused
-MatchEnd (Some NotText) done over refused = refused
-MatchEnd (Some Earlier) done over refused = refused
+MatchEnd end done over refused = refused
 
 abbrev pub IfDone : Option End → Type 0 → Type 0
 IfDone end done = MatchEnd end done (λ error. Unit {0}) (Unit {0})
@@ -36,11 +34,22 @@ IfDone end done = MatchEnd end done (λ error. Unit {0}) (Unit {0})
 abbrev pub door_of : ClientState → DoorState
 door_of client = record { capacity = client.capacity; desk = client.desk; pending = [] }
 
--- the session receives this input, whatever it received earlier, and then has this output
-abbrev pub IsFed : (typed said : List ℕ) → (old new : ClientState) → Type 0
-IsFed typed said old new =
+-- the session receives this input, whatever it received earlier
+abbrev pub IsFed : (typed : List ℕ) → (old new : ClientState) → Type 0
+IsFed typed old new =
     (earlier : List ℕ) → StandsAfter old.session.terminal earlier
-    → Feeds TakesIn earlier typed old.session (record new.session { out = said }) (door_of old) (door_of new)
+    → Feeds TakesIn earlier typed old.session new.session (door_of old) (door_of new)
+
+-- its session with this output
+abbrev pub saying : List ℕ → ClientState → ClientState
+saying said client = record client { session = record client.session { out = said } }
+
+-- the output of the session is returned, framed; it waits for the entries that the desk has seen
+pub record Says (line : Bool) (old new : ClientState) (out : Outgoing) : Type 0 where
+  pub same : new ≡ saying [] old
+  pub gives : out.text.text.items ≡ framed old.framing old.session.out
+  pub version : out.text.version ≡ length old.desk.seen
+  pub ends : out.has_line ≡ line
 
 abbrev pub ends_line : ℕ → Bool
 ends_line b = (b == CR) || (b == LF)
@@ -68,27 +77,21 @@ pub record AnswersFrames (answered : List ℕ) (old new : ClientState) (out : Ou
   pub version : out.text.version ≡ 0
   pub line : out.has_line ≡ false
 
--- the first waiting line is fed. The output is the earlier output and the text of its turns, framed; it waits for the
--- entries that the desk has seen
-pub record AnswersLine (old new : ClientState) (out : Outgoing) : Type 0 where
-  pub capacity : new.capacity ≡ old.capacity
-  pub framing : new.framing ≡ old.framing
+-- the first waiting line is fed
+pub record FeedsLine (old new : ClientState) : Type 0 where
+  pub feeds : IsFed (first_line old.waiting) old new
+  pub same : (new.capacity ≡ old.capacity) × (new.framing ≡ old.framing)
   pub rest : new.waiting ≡ after_first ends_line old.waiting
-  pub said : List ℕ
-  pub feeds : IsFed (first_line old.waiting) said old new
-  pub told : new.session.out ≡ []
-  pub gives : out.text.text.items ≡ framed old.framing said
-  pub version : out.text.version ≡ length new.desk.seen
-  pub line : out.has_line ≡ has_line old.waiting
-  pub ended : new.has_ended ≡ new.session.has_ended
+  pub ended : new.has_ended ≡ (old.has_ended || new.session.has_ended)
 
 -- a step with input. If the protocol replies to its frames, these replies are the whole output; otherwise the first
--- waiting line is answered
+-- waiting line is fed, and the output is what the session says
 pub record Steps (bytes : List ℕ) (old new : ClientState) (out : Outgoing) : Type 0 where
   pub answered : List ℕ
   pub mid : ClientState
   pub comes : Comes bytes answered old mid
-  pub gives : AnswersFrames answered mid new out ⊎ ((answered ≡ []) × AnswersLine mid new out)
+  pub gives : AnswersFrames answered mid new out
+      ⊎ ((answered ≡ []) × (fed : ClientState) × FeedsLine mid fed × Says (has_line mid.waiting) fed new out)
 
 -- all waiting text is fed, up to an answered `quit`
 pub record IsFedAll (old new : ClientState) : Type 0 where
@@ -96,7 +99,7 @@ pub record IsFedAll (old new : ClientState) : Type 0 where
   pub splits : old.waiting ≡ done ++ new.waiting
   pub all : new.session.has_ended ≡ false → new.waiting ≡ []
   pub said : List ℕ
-  pub feeds : IsFed done said old new
+  pub feeds : IsFed done old (saying said new)
 
 -- frames end the connection with this error. The text typed before is fed, and its answers are dropped: the output is
 -- the replies to the frames, and the close that the error calls for
@@ -107,15 +110,14 @@ pub record CutsOff (bytes : List ℕ) (error : Error) (old new : ClientState) (o
 
 -- ---- the other steps
 
--- it looks for changes of others: the output is the earlier output and the notices, framed
-pub record Looks (old new : ClientState) (out : Outgoing) : Type 0 where
-  pub said : List ℕ
-  pub nudges : Nudges TakesIn old.session (record new.session { out = said }) (door_of old) (door_of new)
-  pub told : new.session.out ≡ []
+-- it looks for changes of others: the notices are added to the output of its session
+pub record LooksFor (old new : ClientState) : Type 0 where
+  pub nudges : Nudges TakesIn old.session new.session (door_of old) (door_of new)
   pub same : new ≡ record old { session = new.session; desk = new.desk }
-  pub gives : out.text.text.items ≡ framed old.framing said
-  pub version : out.text.version ≡ length new.desk.seen
-  pub line : out.has_line ≡ false
+
+-- then the output is what the session says
+abbrev pub Looks : (old new : ClientState) → Outgoing → Type 0
+Looks old new out = (looked : ClientState) × LooksFor old looked × Says false looked new out
 
 -- its last output is this line and this close; if an allocation fails, a part of that is missing
 pub record Parts (line : List ℕ) (ending : Option Ending) (old new : ClientState) (text : List ℕ) : Type 0 where

@@ -1,1 +1,1 @@
-pub mod Talking
+pub mod Refusal

@@ -2,29 +2,33 @@
 
 ghost use Rattle.std.specs.Prelude.{◌≡◌, ◌≤◌, ◌++◌, ℕ, List, [], length, true, false, Some, IfOk, IfErr};
 ghost use Rattle.mud_search.specs.declared.limits.TheConstants.{MOST_WORKERS};
+ghost use Rattle.std.specs.Prelude.{◌⊎◌};
 ghost use Rattle.mud_hall.specs.Desk.{as_guest};
-ghost use Rattle.mud_client.specs.Framed.{IsNew};
+ghost use Rattle.mud_client.specs.Framed.{IsNew, last_words};
 ghost use Rattle.mud_client.specs.Client.{Stands};
 ghost use Rattle.mud_client.specs.Steps.{MatchEnd, IfDone, Steps, CutsOff, Looks, Parts, Reports};
 
 use crate::framing::Framing;
 use crate::outgoing::{End, Outgoing};
-use crate::step::Place;
-use crate::talk::Talk;
+use mud_guide::Answer;
 use mud_hall::{Desk, Hall, HallName};
 use mud_journal::Held;
-use mud_session::Seat;
+use mud_session::{Seat, Session};
 use mud_web::Ending;
+use mud_words::parse;
 use std::alloc::Global;
 use std::marker::Model;
 use std::sync::Wait;
 use std::thread::Threads;
 
-/// A session at its desk, and the framing of its bytes. Unless the client has ended, its output is a prefix of its
-/// greeting and the text of the turns played at its desk, framed.
+/// A session at its desk, the framing of its bytes, and the typed text that waits for an answer. Unless the client has
+/// ended, its output is a prefix of its greeting and the text of the turns played at its desk, framed.
 #[derive(Drop)]
 pub struct Client<J: HallName> {
-    pub(crate) talk: Talk,
+    pub(crate) alloc: Global,
+    pub(crate) framing: Framing,
+    pub(crate) waiting: Vec<u8>,
+    pub(crate) session: Session,
     pub(crate) desk: Desk<J>,
     pub(crate) has_ended: bool,
 }
@@ -39,13 +43,17 @@ impl<J: HallName> Model for Client<J> {
 
     ghost coded = { Prim.hlevel (codes, coded_number_tree) };
 
-    ghost view = { λ c. state_of (length J.cells) c.talk c.desk.state c.has_ended };
+    ghost view = { λ c. state_of (length J.cells) c.framing c.waiting.items c.session c.desk.state c.has_ended };
 
     ghost invariant = { λ c. ∥ (c.has_ended ≡ false
-        → IsSound (state_of (length J.cells) c.talk c.desk.state c.has_ended)) ∥₁ };
+        → IsSound (state_of (length J.cells) c.framing c.waiting.items c.session c.desk.state c.has_ended)) ∥₁ };
 }
 
 impl<J: HallName> Client<J> {
+    ghost use Rattle.std.specs.Prelude.{IfSome, codes};
+    ghost use Rattle.mud_words.specs.Parse.{parse_of};
+    ghost use Rattle.mud_hall.specs.Answers.{answer_shown, Answers};
+
     /// Returns a client in its initial state, with the greeting as its output, at the desk, which becomes a guest's
     /// again. If an allocation fails, the desk comes back unchanged.
     pub fn new(alloc: Global, framing: Framing, desk: Desk<J>) -> Result<Client<J>, Desk<J>>
@@ -56,13 +64,16 @@ impl<J: HallName> Client<J> {
         ensures open_still { IfOk result (λ client. client.has_ended ≡ false) }
         ensures err { IfErr result (λ back. back ≡ desk) }
     {
-        let Ok(talk) = Talk::new(alloc, framing) else {
+        let Ok(session) = Session::new(alloc, true) else {
             return Err(desk);
         };
         let mut desk = desk;
         desk.guest();
         Ok(Client {
-            talk,
+            alloc,
+            framing,
+            waiting: Vec::new(alloc),
+            session,
             desk,
             has_ended: false,
         })
@@ -87,25 +98,25 @@ impl<J: HallName> Client<J> {
         ensures earlier { self.has_ended ≡ true → result.1.end ≡ Some End.Earlier }
         ensures reports { Reports (length self.desk.calls) result.0 result.1 }
     {
-        let Client {
-            mut talk,
-            desk,
-            has_ended,
-        } = self;
-        let mut place = Place::new(Seat::new(hall, desk, workers));
-        if has_ended {
-            return talk.refuse(place, End::Earlier);
+        let mut client = self;
+        let before = client.desk.accepted_count();
+        if client.has_ended {
+            return client.refuse(before, End::Earlier);
         }
-        let mut replies = Vec::new(talk.alloc);
-        if let Err(fault) = talk.framing.read(bytes, &mut talk.waiting, &mut replies) {
-            return talk.cut_off(rt, place, replies, fault);
+        let mut replies = Vec::new(client.alloc);
+        let read = client
+            .framing
+            .read(bytes, &mut client.waiting, &mut replies);
+        if let Err(fault) = read {
+            client.has_ended = true;
+            return client.cut_off(rt, hall, workers, before, replies, fault);
         }
         if !replies.is_empty() {
-            return talk.end(place, Held::new(replies, 0), None, false);
+            return client.give(before, Held::new(replies, 0), None, false);
         }
-        match talk.feed_line(rt, &mut place.seat) {
-            Ok(has_line) => talk.say(place, has_line),
-            Err(fault) => talk.refuse(place, End::of_session(fault)),
+        match client.feed_line(rt, hall, workers) {
+            Ok((client, has_line)) => client.say(before, has_line),
+            Err((client, fault)) => client.refuse(before, End::of_session(fault)),
         }
     }
 
@@ -119,19 +130,38 @@ impl<J: HallName> Client<J> {
         ensures earlier { self.has_ended ≡ true → result.1.end ≡ Some End.Earlier }
         ensures reports { Reports (length self.desk.calls) result.0 result.1 }
     {
-        let Client {
-            mut talk,
-            desk,
-            has_ended,
-        } = self;
-        let mut place = Place::new(Seat::up_to(hall, desk, workers, most));
-        if has_ended {
-            return talk.refuse(place, End::Earlier);
+        let before = self.desk.accepted_count();
+        if self.has_ended {
+            return self.refuse(before, End::Earlier);
         }
-        match talk.session.nudge(&mut place.seat) {
-            Ok(()) => talk.say(place, false),
-            Err(fault) => talk.refuse(place, End::of_session(fault)),
+        match self.look(hall, workers, most) {
+            Ok(client) => client.say(before, false),
+            Err((client, fault)) => client.refuse(before, End::of_session(fault)),
         }
+    }
+
+    /// Returns the answer to `look me` at the client's desk, whose first line has the first name and the number of the
+    /// player. It is no output of the session. Returns `None` for a guest, or if an allocation fails.
+    pub fn look_at_me(&mut self, hall: &Hall<J>) -> Option<Answer>
+        ensures same { self.new ≡ self.old }
+        ensures answer { IfSome result (λ a. Answers self.old.desk (parse_of (codes "look me")) (answer_shown a)) }
+    {
+        if !self.desk.has_player() {
+            return None;
+        }
+        let said = parse(self.alloc, "look me").ok()?;
+        self.desk.ask(hall, &said).ok()
+    }
+
+    /// Returns a line of the server's own, framed for the other side. It is no output of the session. The text is empty
+    /// if an allocation fails, or the web socket is closed.
+    pub fn announce(&mut self, line: &str) -> Vec<u8>
+        ensures said { (result.items ≡ last_words self.old.framing line.now) ⊎ (result.items ≡ []) }
+        ensures same { self.new ≡ self.old }
+    {
+        let mut text = Vec::new(self.alloc);
+        self.framing.say_last(line, &mut text);
+        text
     }
 
     /// Returns the last output, and the client, which has ended: a line of the server's own, and the close of a web
@@ -139,15 +169,11 @@ impl<J: HallName> Client<J> {
     pub fn part(self, line: &str, ending: Option<Ending>) -> (Client<J>, Vec<u8>)
         ensures { Parts line.now ending self result.0 result.1.items }
     {
-        let Client { mut talk, desk, .. } = self;
-        let mut text = Vec::new(talk.alloc);
-        talk.framing.say_last(line, &mut text);
-        talk.framing.close(ending, &mut text);
-        let client = Client {
-            talk,
-            desk,
-            has_ended: true,
-        };
+        let mut client = self;
+        client.has_ended = true;
+        let mut text = Vec::new(client.alloc);
+        client.framing.say_last(line, &mut text);
+        client.framing.close(ending, &mut text);
         (client, text)
     }
 

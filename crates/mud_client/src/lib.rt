@@ -17,7 +17,6 @@ mod client;
 mod framing;
 mod outgoing;
 mod step;
-mod talk;
 
 pub use client::Client;
 pub use framing::Framing;

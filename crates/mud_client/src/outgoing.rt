@@ -30,7 +30,7 @@ pub enum End {
 }
 
 impl End {
-    ghost use Rattle.mud_client.specs.inner.Talking.{IsRefusal};
+    ghost use Rattle.mud_client.specs.inner.Refusal.{IsRefusal};
 
     // Returns the reason why a session accepts no more input.
     pub(crate) fn of_session(fault: SessionFault) -> End

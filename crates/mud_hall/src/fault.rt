@@ -70,6 +70,23 @@ impl From<AllocError> for LoadFault {
     }
 }
 
+/// The reason why a single-user desk does not continue a history.
+#[derive(Clone, Copy, PartialEq, Eq, Debug, Drop, Error)]
+pub enum ResumeFault {
+    /// An allocation failed.
+    #[error("out of memory")]
+    OutOfMemory,
+    /// The change of this entry, counted from 1, is illegal where it occurs.
+    #[error("change {0} is not legal")]
+    BadChange(usize),
+    /// There are more entries than the history can have.
+    #[error("more entries than the capacity")]
+    OverCapacity,
+    /// The word means no player, or several.
+    #[error("no such player")]
+    NoPlayer,
+}
+
 /// The reason why a hall was not closed.
 #[derive(Clone, Copy, PartialEq, Eq, Debug, Drop, Error)]
 pub enum CloseFault {

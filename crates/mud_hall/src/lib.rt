@@ -74,7 +74,7 @@ mod travel;
 
 pub use close::Settled;
 pub use desk::Desk;
-pub use fault::{CloseFault, Fault, LoadFault};
+pub use fault::{CloseFault, Fault, LoadFault, ResumeFault};
 pub use hall::{Hall, NewHall};
 pub use mud_chron::limits::MOST_DESKS;
 pub use name::HallName;

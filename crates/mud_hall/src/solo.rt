@@ -1,7 +1,8 @@
 //! A single-user desk with a world of its own.
 
 ghost use Rattle.std.specs.Prelude.{◌≡◌, ◌≢◌, ◌≤◌, ◌<◌, ◌++◌, ◌⊎◌, [], length, codes, string_bytes};
-ghost use Rattle.std.specs.Prelude.{Some, None, IfOk, IfErr, IfSome, OnOk, OnErr, IsTrue, vec_len, vec_capacity};
+ghost use Rattle.std.specs.Prelude.{ℕ, Some, None, IfOk, IfErr, IfSome, OnOk, OnErr, IsTrue, vec_len, vec_capacity};
+ghost use Rattle.std.specs.Prelude.{MatchOption};
 ghost use Rattle.std.specs.Thread.{IsSync};
 ghost use Rattle.mud_world.specs.State.{is_player};
 ghost use Rattle.mud_world.specs.Legal.{refusal, after};
@@ -16,19 +17,20 @@ ghost use Rattle.mud_hall.specs.Notices.{world_after};
 ghost use Rattle.mud_hall.specs.Desk.{as_player, as_accepted, with_told};
 ghost use Rattle.mud_hall.specs.Replies.{reply_shown, verdict_on, Replies, Stores};
 ghost use Rattle.mud_hall.specs.Answers.{answer_shown, Answers, IsGuided};
-ghost use Rattle.mud_hall.specs.Alone.{Alone, alone};
+ghost use Rattle.mud_hall.specs.Alone.{Alone, alone, IsNamed, IsResumed, IsResumeFault};
+ghost use Rattle.mud_chron.specs.Replay.{changes_of, AreLegal, HasIllegal};
 ghost use Rattle.mud_rules.specs.Table.{decision};
 ghost use Rattle.mud_hall.specs.inner.Desks.{IsResponse, Travels};
 
 use crate::answering;
-use crate::fault::Fault;
+use crate::fault::{Fault, ResumeFault};
 use crate::guide::{Through, by_workers};
 use crate::reply::Reply;
 use crate::texts::history_answer;
-use mud_chron::Entry;
+use mud_chron::{ChronFault, Entry, replay};
 use mud_guide::{Answer, Workers};
 use mud_roads::Traveller;
-use mud_rules::{Journey, Verdict, decide, refusal_text, reply_text, welcome_text};
+use mud_rules::{Journey, Verdict, decide, player_match, refusal_text, reply_text, welcome_text};
 use mud_search::OpenGate;
 use mud_words::Parsed;
 use mud_world::{Change, World};
@@ -37,8 +39,8 @@ use std::marker::Model;
 use std::sync::Wait;
 use std::thread::Threads;
 
-/// A desk without a hall: its player, its world, and the history, all of it made by desk 1. It replies like a desk of a
-/// hall, but an entry is always stored.
+/// A desk without a hall: its player, its world, and the history. It makes its entries as desk 1. It replies like a
+/// desk of a hall, but an entry is always stored.
 #[derive(Drop)]
 pub struct Solo {
     alloc: Global,
@@ -83,6 +85,51 @@ impl Solo {
             workers: 0,
             traveller: None,
         })
+    }
+
+    /// Returns the desk of a player after these entries. `word` means the player, as in `meet` (docs/COMMANDS.md); `me`
+    /// and `here` are those of #1. The history holds at most `capacity` entries, up to 65,536, these included. The
+    /// first entry whose change is illegal, too many entries, and a word that means no player are errors, in this
+    /// order. The only other error is out of memory.
+    pub fn resume(
+        alloc: Global,
+        capacity: u32,
+        entries: Vec<Entry>,
+        word: &str,
+    ) -> Result<Solo, ResumeFault>
+        requires { capacity ≤ MOST_ENTRIES }
+        ensures ok { IfOk result (λ solo. IsResumed capacity entries.items word.now solo) }
+        ensures fault { IfErr result (IsResumeFault capacity entries.items word.now) }
+    {
+        let world = match replay(alloc, &entries) {
+            Ok(world) => world,
+            Err(ChronFault::OutOfMemory) => return Err(ResumeFault::OutOfMemory),
+            Err(ChronFault::BadChange(n)) => return Err(ResumeFault::BadChange(n)),
+            Err(_) => unreachable!(),
+        };
+        if entries.len() > capacity as usize {
+            return Err(ResumeFault::OverCapacity);
+        }
+        let Some(player) = player_named(&world, word) else {
+            return Err(ResumeFault::NoPlayer);
+        };
+        Ok(Solo {
+            alloc,
+            capacity,
+            world,
+            history: entries,
+            player,
+            workers: 0,
+            traveller: None,
+        })
+    }
+
+    /// Returns the entries of the history, at most 65,536.
+    pub fn into_history(self) -> Vec<Entry>
+        ensures history { result.items ≡ self.state.seen }
+        ensures few { length result.items ≤ MOST_ENTRIES }
+    {
+        self.history
     }
 
     /// Sets the number of workers that the guide uses. Initially there are none, and only the caller's thread searches.
@@ -238,6 +285,25 @@ impl Solo {
         ensures rest { self.new.state ≡ with_told self.old.state [] }
     {
         Vec::new(self.alloc)
+    }
+}
+
+// The player for whom `me` and `here` stand in a word.
+const WIZARD: u32 = 1;
+
+// Returns the player that a word means, if there is one.
+fn player_named(world: &World, word: &str) -> Option<u32>
+    ensures { MatchOption result ((player : ℕ) → IsNamed world.now word.now player → ⊥) (IsNamed world.now word.now) }
+{
+    match player_match(world, WIZARD, word) {
+        Ok(player) => {
+            if world.is_player(player) {
+                Some(player)
+            } else {
+                None
+            }
+        }
+        Err(_) => None,
     }
 }
 

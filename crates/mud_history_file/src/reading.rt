@@ -1,7 +1,7 @@
-//! Reads the file of a history.
+//! Reads the files of histories and journals.
 
 use crate::unloaded::Unloaded;
-use mud_chron::{Entry, read_history};
+use mud_chron::{Entry, before_zero, read_front, read_history};
 use std::fs;
 use std::rt::Files;
 
@@ -13,6 +13,24 @@ pub fn load<R: Files + AllocGlobal>(rt: &R, name: &str) -> Result<Vec<Entry>, Un
     };
     match read_history(rt.alloc(), &text) {
         Ok(entries) => Ok(entries),
+        Err(fault) => Err(Unloaded::of_text(fault)),
+    }
+}
+
+/// Returns the entries with complete lines in the file with this name, a copy of a journal, and the number of bytes
+/// after them. A zero byte and everything after it counts as torn (docs/HISTORY.md, "Journals"). A file without a
+/// complete first line is no history.
+pub fn load_journal<R: Files + AllocGlobal>(
+    rt: &R,
+    name: &str,
+) -> Result<(Vec<Entry>, usize), Unloaded> {
+    let text = match fs::read(rt, name) {
+        Ok(text) => text,
+        Err(error) => return Err(Unloaded::of_file(&error)),
+    };
+    match read_front(rt.alloc(), before_zero(&text)) {
+        Ok(front) if front.keep == 0 => Err(Unloaded::NotHistory),
+        Ok(front) => Ok((front.entries, text.len() - front.keep)),
         Err(fault) => Err(Unloaded::of_text(fault)),
     }
 }

@@ -20,11 +20,12 @@ use Rattle.mud_chron.specs.Faults.{HasOtherLine}
 use Rattle.mud_chron.specs.Fronts.{Recovers, EndsInHead, EndsInLine}
 use Rattle.mud_chron.proofs.Zeros.{journal_has_no_zeros}
 use Rattle.mud_chron.proofs.Fronts as fronts
+use Rattle.mud_journal.specs.declared.fault.OpenFault.{OpenFault}
 use Rattle.mud_journal.specs.declared.fault.OpenFault.TheVariants as fault
-use Rattle.mud_journal.specs.Disk.{AreThere}
+use Rattle.mud_journal.specs.Crash.{AreThere, IsLeftOf}
 use Rattle.mud_chron.specs.Zeros.{up_to_zero}
 use Rattle.mud_journal.specs.Found.{HasJournal, Finds}
-use Rattle.mud_journal.specs.Laws.{IsLeftOf, IsAlwaysRead, NothingIsLost, WhateverFollows}
+use Rattle.mud_journal.specs.Laws.{IsAlwaysRead, NothingIsLost, IsRefusedBehind, WhateverFollows, OnAnyDisk}
 use Rattle.mud_journal.specs.OpenFaults.{IsRefusedAs}
 use Rattle.mud_chron.proofs.BeforeZero.{to_zero, past, behind_text}
 use Rattle.mud_journal.proofs.Finding.{head_text, blank_begins_nothing}
@@ -245,6 +246,24 @@ whatever_follows synced bytes allowed (behind, is) = (found, refused)
         fronts.found_whatever_follows Two Two synced (up_to_zero behind) got (length (journal_text Two got)) allowed
         (subst (λ b. Recovers b Two got (length (journal_text Two got))) up (read_as bytes got torn j))
 
-    refused : (n : ℕ) → IsRefusedAs bytes (fault.Line n) → length synced + 2 ≤ n
-    refused n h =
+    refused : (why : OpenFault) → IsRefusedAs bytes why → IsRefusedBehind (length synced) why
+    refused fault.OutOfMemory h = tt
+    refused fault.Whole h = tt
+    refused fault.TooLong h = tt
+    refused (fault.Line n) h =
         fronts.bad_line_behind Two synced (up_to_zero behind) n allowed (subst (λ b. HasOtherLine b n) up h)
+    refused fault.NotHistory h =
+        absurd (h.0 Two (entries_text 1 synced ++ behind)
+        (sym is ∙ append_assoc (head_text Two) (entries_text 1 synced) behind))
+    refused fault.Old (entries, keep, r) =
+        absurd (old_is_none (entries_text 1 synced ++ up_to_zero behind) entries keep
+        (subst (λ t. Recovers t One entries keep)
+        (up ∙ append_assoc (head_text Two) (entries_text 1 synced) (up_to_zero behind)) r))
+    refused (fault.File why) h = absurd h
+    refused fault.NotPlain h = absurd h
+    refused fault.InUse h = absurd h
+
+pub on_any_disk : OnAnyDisk
+on_any_disk bytes synced added h =
+    whatever_follows synced bytes (first_part synced added h.allowed)
+    (h.left.0.0, ap (λ t. t ++ h.left.0.0) (sym h.front.3) ∙ h.left.0.1)

@@ -1,12 +1,13 @@
 -- The effect of a disk's calls on a journal.
 use Rattle.std.proofs.Common.{◌≡◌, ℕ, ◌+◌, List, ◌++◌, length, take}
-use Rattle.std.proofs.Common.{Option, Some, None, sym, ◌∙◌, ap, arith}
+use Rattle.std.proofs.Common.{Option, Some, None, refl, sym, ◌∙◌, ap, arith, ◌⊎◌, inl, inr, subst}
 use Rattle.std.proofs.Math.Seq.{take-append-add, take-length, take-append_seam}
 use Rattle.std.proofs.lemmas.List.{length-append}
 use Rattle.mud_chron.specs.declared.format.Format.TheVariants.{Two}
 use Rattle.mud_chron.specs.Entry.{Entry}
 use Rattle.mud_chron.specs.Text.{entries_text, journal_text}
-use Rattle.mud_journal.specs.Disk.{Kept, Grows, Syncs, Stays, IsMade, Holds, Adds, AddsInPart}
+use Rattle.mud_journal.specs.Disk.{Kept, made, Grows, Syncs, Stays, IsMade, Holds, Adds, AddsInPart}
+use Rattle.mud_journal.specs.Crash.{IsLeft, Elapses, LeavesAll, LeavesOldOrNew}
 use Rattle.mud_journal.proofs.Grown.{journal_text-append}
 
 -- ---- more entries
@@ -46,6 +47,11 @@ added (Some k) (Some m) None count news text is g s = absurd s
 added (Some k) (Some m) (Some l) count news text is g s = λ es n h.
     let whole : m.appended ≡ journal_text Two (es ++ news) = grown k m es news count text is n g h in
     (s.0 ∙ whole, s.1 ∙ whole)
+
+-- a call that does nothing
+stays : (a : Option Kept) → Stays a a
+stays None = tt
+stays (Some k) = (refl, refl)
 
 -- no call
 pub unchanged : (a : Option Kept) (count : ℕ) (news : List Entry) → AddsInPart a a count news
@@ -94,3 +100,71 @@ unsynced (Some k) (Some m) (Some l) count news text is g s = λ es n h.
       s.0 ∙ grown k m es news count text is n g h ∙ sym (take-length (journal_text Two (es ++ news))),
       s.1 ∙ g.1 ∙ h.1,
     )
+
+-- ---- crashes
+
+-- before any call
+pub untouched : (T : List ℕ → List ℕ → Type 0) (a : Option Kept) (count : ℕ) (news : List Entry) (bytes : List ℕ)
+    → IsLeft T a bytes → LeavesAll T a count news bytes
+untouched T None count news bytes left = tt
+untouched T (Some k) count news bytes left = λ es n h allowed. record {
+  disk = k;
+  allowed = allowed;
+  front = unchanged (Some k) count news es n h;
+  left = left;
+}
+
+-- after an append
+in_part : (T : List ℕ → List ℕ → Type 0) (a b : Option Kept) (count : ℕ) (news : List Entry) (text bytes : List ℕ)
+    → Grows a b text → AddsInPart a b count news → IsLeft T b bytes → LeavesAll T a count news bytes
+in_part T None b count news text bytes g part left = tt
+in_part T (Some k) None count news text bytes g part left = absurd g
+in_part T (Some k) (Some m) count news text bytes g part left = λ es n h allowed. record {
+  disk = m;
+  allowed = allowed;
+  front = part es n h;
+  left = left;
+}
+
+-- an append of the whole text
+pub whole : (a b : Option Kept) (count : ℕ) (news : List Entry) (text : List ℕ) → text ≡ entries_text (count + 1) news
+    → Grows a b text → AddsInPart a b count news
+whole a b count news text is g = unsynced a b b count news text is g (stays b)
+
+-- in an append, or since
+pub in_append : (T : List ℕ → List ℕ → Type 0) (a b : Option Kept) (count : ℕ) (news : List Entry) (text : List ℕ)
+    (before after : ℕ) (past since : ℕ → List ℕ → Type 0) → Elapses before after past since (IsLeft T b)
+    → ((bytes : List ℕ) → past before bytes → IsLeft T a bytes) → Grows a b text → AddsInPart a b count news
+    → (bytes : List ℕ) → since before bytes → LeavesAll T a count news bytes
+in_append T a b count news text before after past since lasts left g part bytes was =
+    go (lasts.only before bytes (omega arith) was)
+  where
+    go : past before bytes ⊎ IsLeft T b bytes → LeavesAll T a count news bytes
+    go (inl earlier) = untouched T a count news bytes (left bytes earlier)
+    go (inr here) = in_part T a b count news text bytes g part here
+
+-- in an append and a sync, or since
+pub in_sync : (T : List ℕ → List ℕ → Type 0) (a b : Option Kept) (count : ℕ) (news : List Entry) (text : List ℕ)
+    (before between after : ℕ) (past mid since : ℕ → List ℕ → Type 0) → Elapses before between past mid (IsLeft T b)
+    → Elapses between after mid since (IsLeft T b) → ((bytes : List ℕ) → past before bytes → IsLeft T a bytes)
+    → Grows a b text → AddsInPart a b count news → (bytes : List ℕ) → since before bytes
+    → LeavesAll T a count news bytes
+in_sync T a b count news text before between after past mid since first second left g part bytes was =
+    go (second.only before bytes first.later was)
+  where
+    go : mid before bytes ⊎ IsLeft T b bytes → LeavesAll T a count news bytes
+    go (inl earlier) =
+        in_append T a b count news text before between past mid first left g part bytes earlier
+    go (inr here) = in_part T a b count news text bytes g part here
+
+-- in the replacement of a file by the text that was found and more lines, or since
+pub in_replace : (T : List ℕ → List ℕ → Type 0) (had more : List Entry) (count : ℕ) (text all : List ℕ)
+    (before after : ℕ) (past since : ℕ → List ℕ → Type 0)
+    → Elapses before after past since (IsLeft T (Some (made all))) → length had ≡ count → text ≡ journal_text Two had
+    → all ≡ text ++ entries_text (count + 1) more → (bytes : List ℕ) → since before bytes
+    → LeavesOldOrNew T (past before) (had ++ more) bytes
+in_replace T had more count text all before after past since lasts n is whole bytes was =
+    let same : all ≡ journal_text Two (had ++ more) =
+    whole ∙ ap (λ t. t ++ entries_text (count + 1) more) is ∙ sym (counted had more count n) in
+    subst (λ t. past before bytes ⊎ IsLeft T (Some (made t)) bytes) same
+    (lasts.only before bytes (omega arith) was)

@@ -1,6 +1,5 @@
--- The contents of an append-only file, the contents after a crash, and the journal in them.
-use Rattle.std.specs.Prelude.{◌≡◌, ◌≤◌, ◌⊎◌, ℕ, List, [], ◌∷◌, ◌++◌, length, take, Option, Some, None, IfSome}
-use mathlib.Core.List.{IsPrefix}
+-- The contents of an append-only file, and the journal in them.
+use Rattle.std.specs.Prelude.{◌≡◌, ◌≤◌, ℕ, List, ◌++◌, length, take, Option, Some, None, IfSome}
 use Rattle.mud_chron.specs.declared.format.Format.TheVariants.{Two}
 use Rattle.mud_chron.specs.Entry.{Entry}
 use Rattle.mud_chron.specs.Text.{journal_text}
@@ -37,16 +36,6 @@ made bytes = record { appended = bytes; synced = bytes }
 -- the file has exactly these bytes
 abbrev pub IsMade : Option Kept → List ℕ → Type 0
 IsMade kept bytes = IfSome kept (λ disk. (disk.appended ≡ bytes) × (disk.synced ≡ bytes))
-
--- each byte is there as it was written, or as a zero; only zeros follow the written bytes
-abbrev pub AreThere : List ℕ → List ℕ → Type 0
-AreThere written [] = Unit {0}
-AreThere [] (b ∷ bytes) = (b ≡ 0) × AreThere [] bytes
-AreThere (a ∷ written) (b ∷ bytes) = ((b ≡ a) ⊎ (b ≡ 0)) × AreThere written bytes
-
--- a crash leaves the synced bytes, and after them, up to any length, each written byte or a zero
-abbrev pub IsLeft : Option Kept → List ℕ → Type 0
-IsLeft kept bytes = IfSome kept (λ disk. IsPrefix disk.synced bytes × AreThere disk.appended bytes)
 
 -- the file is the text of a journal of these entries, all of it synced
 abbrev pub Holds : Option Kept → List Entry → Type 0

@@ -1,7 +1,8 @@
 //! The disk of a journal: a file that is replaced whole, and then only grows.
 
-ghost use Rattle.std.specs.Prelude.{ℕ, List, ◌⊎◌, Option, Some, OnOk, OnErr, take};
-ghost use Rattle.mud_journal.specs.Disk.{Kept, Grows, Syncs, Stays, IsMade, IsLeft, made};
+ghost use Rattle.std.specs.Prelude.{ℕ, List, Option, Some, OnOk, OnErr, take};
+ghost use Rattle.mud_journal.specs.Disk.{Kept, Grows, Syncs, Stays, IsMade, made};
+ghost use Rattle.mud_journal.specs.Crash.{IsLeft, Elapses};
 
 use std::io::{self, ErrorKind};
 use thiserror::Error;
@@ -62,36 +63,49 @@ impl DiskFault {
     }
 }
 
-/// A disk with one file. Bytes from before this process are not known to survive a crash, whatever a read or a sync
-/// returned. So the file is first replaced whole by [`Disk::replace`], which is atomic, and then only grows. No other
-/// call removes a byte.
-pub trait Disk {
-    /// The bytes that this process wrote to the file, and the synced prefix; `None` while nothing is known, as before
-    /// the first [`Disk::replace`].
+/// A file that grows. None of its calls removes a byte: so whatever is synced stays in front, at each moment of each
+/// call.
+pub trait Appends {
+    /// The bytes that this process wrote to the file, and the synced prefix; `None` while nothing is known.
     ghost kept: { Self → Option Kept };
 
-    /// The contents that a crash at this moment may leave. A crash inside a call leaves contents that were possible
-    /// before the call or after it.
-    ghost may_leave: { Self → List ℕ → Type 0 };
+    /// The bytes that a crash may leave of those that were written and not synced. It is `AreThere` for a disk that
+    /// leaves each of them or a zero, and `AreAny` for one that also shows the bytes of older files.
+    ghost tears: { List ℕ → List ℕ → Type 0 };
 
-    /// Replaces the whole file by these bytes, and waits until they are durable. After a fault the file has its old
-    /// contents, or these bytes.
-    fn replace(&mut self, bytes: &[u8]) -> Result<(), DiskFault>
-        ensures ok { OnOk result (IsMade (kept self.new) bytes.now) }
-        ensures err { OnErr result ((left : List ℕ) → may_leave self.new left
-            → may_leave self.old left ⊎ IsLeft (Some (made bytes.now)) left) };
+    /// A number of the present moment, which no call lowers.
+    ghost moment: { Self → ℕ };
+
+    /// The contents that a crash may have left at a moment since that one, in a call or between two.
+    ghost left_since: { Self → ℕ → List ℕ → Type 0 };
 
     /// Appends the bytes. After a fault a prefix of them was appended.
     fn append(&mut self, bytes: &[u8]) -> Result<(), DiskFault>
         ensures ok { OnOk result (Grows (kept self.old) (kept self.new) bytes.now) }
-        ensures err { OnErr result ((n : ℕ) × Grows (kept self.old) (kept self.new) (take n bytes.now)) };
+        ensures err { OnErr result ((n : ℕ) × Grows (kept self.old) (kept self.new) (take n bytes.now)) }
+        ensures crash { Elapses (moment self.old) (moment self.new) (left_since self.old) (left_since self.new)
+            (IsLeft tears (kept self.new)) };
 
     /// Waits until all appended bytes are durable. After a fault no more bytes are known to be durable, and a later
     /// call does not help.
     fn sync(&mut self) -> Result<(), DiskFault>
         ensures ok { OnOk result (Syncs (kept self.old) (kept self.new)) }
-        ensures err { OnErr result (Stays (kept self.old) (kept self.new)) };
+        ensures err { OnErr result (Stays (kept self.old) (kept self.new)) }
+        ensures crash { Elapses (moment self.old) (moment self.new) (left_since self.old) (left_since self.new)
+            (IsLeft tears (kept self.old)) };
 
-    /// A crash leaves the synced bytes, and after them each appended byte as it was written, or as a zero.
-    ghost left: { (disk : Self) (bytes : List ℕ) → may_leave disk bytes → IsLeft (kept disk) bytes };
+    /// A crash at the present moment leaves the synced bytes, and after them what it may leave of the appended ones.
+    ghost left: { (disk : Self) (bytes : List ℕ) → left_since disk (moment disk) bytes
+        → IsLeft tears (kept disk) bytes };
+}
+
+/// A disk with one file. Bytes from before this process are not known to survive a crash, whatever a read or a sync
+/// returned. So the file is first replaced whole by [`Disk::replace`], which is atomic, and then only grows.
+pub trait Disk: Appends {
+    /// Replaces the whole file by these bytes, and waits until they are durable. A crash meanwhile, or after a fault,
+    /// leaves the old contents, or these bytes.
+    fn replace(&mut self, bytes: &[u8]) -> Result<(), DiskFault>
+        ensures ok { OnOk result (IsMade (Self.kept self.new) bytes.now) }
+        ensures crash { Elapses (Self.moment self.old) (Self.moment self.new) (Self.left_since self.old)
+            (Self.left_since self.new) (IsLeft Self.tears (Some (made bytes.now))) };
 }

@@ -5,7 +5,7 @@ ghost use Rattle.mud_world.specs.declared.limits.TheConstants.{MOST_ENTRIES};
 ghost use Rattle.mud_chron.specs.declared.format.Format.TheVariants.{Two};
 ghost use Rattle.mud_chron.specs.Text.{journal_text};
 
-use crate::disk::{Disk, DiskFault};
+use crate::disk::{Appends, Disk, DiskFault};
 use crate::fault::OpenFault;
 use crate::journal::Found;
 use crate::recovery::found_in;
@@ -159,25 +159,19 @@ impl<R: Files<File = File>> Read for JournalFile<'_, R> {
 }
 
 /// A file of the operating system. Nothing is claimed about its contents.
-impl<R: Files<File = File>> Disk for JournalFile<'_, R> {
+impl<R: Files<File = File>> Appends for JournalFile<'_, R> {
     ghost use Rattle.std.specs.Prelude.{None};
+    ghost use Rattle.mud_journal.specs.Crash.{AreAny};
 
     ghost kept = { λ _. None };
 
-    ghost may_leave = { λ _ _. Unit {0} };
+    ghost tears = { AreAny };
+
+    ghost moment = { λ _. 0 };
+
+    ghost left_since = { λ _ _ _. Unit {0} };
 
     ghost left = { λ _ _ _. tt };
-
-    fn replace(&mut self, bytes: &[u8]) -> Result<(), DiskFault> {
-        match self.write_beside(bytes) {
-            Ok(new) => self.file = new,
-            Err(error) => {
-                let _ = remove(self.rt, self.beside.as_str());
-                return Err(DiskFault::of(&error));
-            }
-        }
-        self.sync_name().map_err(|error| DiskFault::of(&error))
-    }
 
     fn append(&mut self, bytes: &[u8]) -> Result<(), DiskFault> {
         self.file
@@ -187,6 +181,19 @@ impl<R: Files<File = File>> Disk for JournalFile<'_, R> {
 
     fn sync(&mut self) -> Result<(), DiskFault> {
         self.file.sync_data().map_err(|error| DiskFault::of(&error))
+    }
+}
+
+impl<R: Files<File = File>> Disk for JournalFile<'_, R> {
+    fn replace(&mut self, bytes: &[u8]) -> Result<(), DiskFault> {
+        match self.write_beside(bytes) {
+            Ok(new) => self.file = new,
+            Err(error) => {
+                let _ = remove(self.rt, self.beside.as_str());
+                return Err(DiskFault::of(&error));
+            }
+        }
+        self.sync_name().map_err(|error| DiskFault::of(&error))
     }
 }
 

@@ -1,14 +1,15 @@
 //! The journal on a disk.
 
-ghost use Rattle.std.specs.Prelude.{◌≡◌, ◌≤◌, ◌+◌, ◌++◌, ◌<◌, List, true, false, Err, IfOk, IfErr, OnOk, OnErr};
+ghost use Rattle.std.specs.Prelude.{◌≡◌, ◌≤◌, ◌+◌, ◌++◌, ◌<◌, ℕ, List, true, false, Err, IfOk, IfErr, OnOk, OnErr};
 ghost use Rattle.std.specs.Prelude.{length, string_bytes};
 ghost use Rattle.mud_chron.specs.declared.format.Format.TheVariants.{Two};
 ghost use Rattle.mud_chron.specs.Entry.{Entry};
 ghost use Rattle.mud_chron.specs.Text.{entries_text, journal_text};
 ghost use Rattle.mud_journal.specs.Disk.{Holds, Adds, AddsInPart};
+ghost use Rattle.mud_journal.specs.Crash.{LeavesAll, LeavesOldOrNew};
 ghost use Rattle.mud_journal.specs.OpenFaults.{IsBeginFault};
 
-use crate::disk::Disk;
+use crate::disk::{Appends, Disk};
 use crate::fault::{JournalFault, OpenFault};
 use mud_chron::{Entry, write_entry};
 use mud_world::limits::MOST_ENTRIES;
@@ -65,7 +66,7 @@ impl Receipt {
 /// A disk on which this text of a journal was found, or will be begun, and the number of entries in the text. The disk
 /// was not written to yet.
 #[derive(Drop)]
-pub struct Found<D: Disk> {
+pub struct Found<D> {
     disk: D,
     text: Vec<u8>,
     count: usize,
@@ -74,7 +75,7 @@ pub struct Found<D: Disk> {
 /// A disk with the text of this many entries, all written by this process. After a fault the journal accepts no more
 /// entries.
 #[derive(Drop)]
-pub struct Journal<D: Disk> {
+pub struct Journal<D: Appends> {
     disk: D,
     count: usize,
     has_failed: bool,
@@ -114,7 +115,7 @@ fn append_entries(
     text.extend_from_slice(lines.as_bytes())
 }
 
-impl<D: Disk + Drop> Found<D> {
+impl<D: Drop> Found<D> {
     // Returns a disk on which this text of `count` entries was found.
     pub(crate) fn new(disk: D, text: Vec<u8>, count: usize) -> Found<D>
         ensures { result ≡ record { disk = disk; text = text; count = count } }
@@ -128,36 +129,67 @@ impl<D: Disk + Drop> Found<D> {
     {
         self.count
     }
+}
 
+// Replaces the file by this text of `count` entries and the lines of the further ones.
+fn write_anew<D: Disk>(
+    alloc: Global,
+    disk: &mut D,
+    text: Vec<u8>,
+    count: usize,
+    more: &[Entry],
+) -> Result<(), OpenFault>
+    ensures holds { OnOk result ((had : List Entry) → text.items ≡ journal_text Two had → length had ≡ count
+        → Holds (D.kept disk.new) (had ++ more.now)) }
+    ensures few { OnOk result (count + length more.now ≤ MOST_ENTRIES) }
+    ensures crash { (had : List Entry) → text.items ≡ journal_text Two had → length had ≡ count
+        → (bytes : List ℕ) → D.left_since disk.new (D.moment disk.old) bytes
+        → LeavesOldOrNew D.tears (D.left_since disk.old (D.moment disk.old)) (had ++ more.now) bytes }
+    ensures err { IfErr result (IsBeginFault (count + length more.now)) }
+{
+    let mut text = text;
+    if count > MOST_ENTRIES || more.len() > MOST_ENTRIES - count {
+        return Err(OpenFault::TooLong);
+    }
+    append_entries(alloc, count, more, &mut text)?;
+    disk.replace(&text)?;
+    Ok(())
+}
+
+impl<D: Disk + Drop> Found<D> {
     /// Replaces the file by the text that was found and the lines of these further entries, and continues the journal.
     /// It does so whatever the disk held, because a crash may lose the bytes that were read, and torn bytes have to go.
-    /// After an error the disk has its old contents, or all of this text.
-    pub fn begin(self, alloc: Global, more: &[Entry]) -> Result<Journal<D>, OpenFault>
+    /// A crash meanwhile leaves the disk's old contents, or all of this text. So does an error, which returns the disk.
+    pub fn begin(self, alloc: Global, more: &[Entry]) -> Result<Journal<D>, (D, OpenFault)>
         ensures count { IfOk result (λ j. j.count ≡ self.count + length more.now) }
         ensures going { IfOk result (λ j. j.has_failed ≡ false) }
         ensures holds { IfOk result (λ j. (had : List Entry) → self.text.items ≡ journal_text Two had
             → length had ≡ self.count → Holds (D.kept j.disk) (had ++ more.now)) }
-        ensures err { IfErr result (IsBeginFault (self.count + length more.now)) }
+        ensures crash { IfOk result (λ j. (had : List Entry) → self.text.items ≡ journal_text Two had
+            → length had ≡ self.count → (bytes : List ℕ) → D.left_since j.disk (D.moment self.disk) bytes
+            → LeavesOldOrNew D.tears (D.left_since self.disk (D.moment self.disk)) (had ++ more.now) bytes) }
+        ensures crash_err { IfErr result (λ e. (had : List Entry) → self.text.items ≡ journal_text Two had
+            → length had ≡ self.count → (bytes : List ℕ) → D.left_since e.0 (D.moment self.disk) bytes
+            → LeavesOldOrNew D.tears (D.left_since self.disk (D.moment self.disk)) (had ++ more.now) bytes) }
+        ensures err { IfErr result (λ e. IsBeginFault (self.count + length more.now) e.1) }
     {
         let Found {
             mut disk,
-            mut text,
+            text,
             count,
         } = self;
-        if count > MOST_ENTRIES || more.len() > MOST_ENTRIES - count {
-            return Err(OpenFault::TooLong);
+        match write_anew(alloc, &mut disk, text, count, more) {
+            Ok(()) => Ok(Journal {
+                disk,
+                count: count + more.len(),
+                has_failed: false,
+            }),
+            Err(fault) => Err((disk, fault)),
         }
-        append_entries(alloc, count, more, &mut text)?;
-        disk.replace(&text)?;
-        Ok(Journal {
-            disk,
-            count: count + more.len(),
-            has_failed: false,
-        })
     }
 }
 
-impl<D: Disk + Drop> Journal<D> {
+impl<D: Appends + Drop> Journal<D> {
     /// Returns the number of entries.
     pub fn len(&self) -> usize
         ensures { result ≡ self.now.count }
@@ -172,8 +204,8 @@ impl<D: Disk + Drop> Journal<D> {
         self.has_failed
     }
 
-    /// Appends entries with one write and one sync. After a fault all earlier synced entries are still durable, and the
-    /// journal does not touch the disk again.
+    /// Appends entries with one write and one sync. A crash at any moment of the call leaves all earlier entries. After
+    /// a fault they are still durable, and the journal does not touch the disk again.
     pub fn commit(&mut self, alloc: Global, entries: &[Entry]) -> Result<Receipt, JournalFault>
         ensures ok { OnOk result (Adds (D.kept self.old.disk) (D.kept self.new.disk) self.old.count entries.now) }
         ensures count { IfOk result (λ r. (self.new.count ≡ self.old.count + length entries.now)
@@ -182,6 +214,8 @@ impl<D: Disk + Drop> Journal<D> {
         ensures going { OnOk result (self.new.has_failed ≡ false) }
         ensures fault { OnErr result (AddsInPart (D.kept self.old.disk) (D.kept self.new.disk)
             self.old.count entries.now) }
+        ensures crash { (bytes : List ℕ) → D.left_since self.new.disk (D.moment self.old.disk) bytes
+            → LeavesAll D.tears (D.kept self.old.disk) self.old.count entries.now bytes }
         ensures failed { OnErr result (self.new.has_failed ≡ true) }
         ensures same_count { OnErr result (self.new.count ≡ self.old.count) }
         ensures closed { self.old.has_failed ≡ true → (result ≡ Err JournalFault.Disk) × (self.new ≡ self.old) }

@@ -13,8 +13,9 @@
 //!
 //! Memory: a journal owns its disk, and a held text its bytes. Reading a disk reads its whole text into memory.
 //!
-//! Proved, over every [`Disk`]: all its bytes are read, the contents after each call are as stated, and by [`laws`] no
-//! synced entry is lost, whatever a crash leaves. It is an assumption that a file is such a disk.
+//! Proved, over every [`Appends`] and [`Disk`]: all bytes of a disk are read, and the contents after each call are as
+//! stated. A crash at any moment of a call leaves the bytes that were synced before it. By [`laws`] no synced entry is
+//! lost, whatever a crash leaves. It is an assumption that a file is such a disk.
 #![tactic(auto)]
 
 mod disk;
@@ -26,7 +27,7 @@ mod journal;
 pub mod laws;
 mod recovery;
 
-pub use disk::{Disk, DiskFault};
+pub use disk::{Appends, Disk, DiskFault};
 pub use fault::{JournalFault, OpenFault};
 pub use file::{JournalFile, find_journal};
 pub use gate::Gate;

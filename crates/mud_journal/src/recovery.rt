@@ -12,7 +12,6 @@ ghost use Rattle.mud_chron.specs.Zeros.{up_to_zero};
 ghost use Rattle.mud_journal.specs.Found.{IsBlank, Finds};
 ghost use Rattle.mud_journal.specs.OpenFaults.{IsRefusedIn, IsRefusedAs, IsUnfoundAs};
 
-use crate::disk::Disk;
 use crate::fault::OpenFault;
 use crate::journal::Found;
 use mud_chron::{ChronFault, Entry, Format, Front, before_zero, read_front, read_history};
@@ -80,8 +79,8 @@ fn front_of(alloc: Global, bytes: &[u8]) -> Result<Front, OpenFault>
 
 /// Recovers the journal from the bytes of a disk. Returns it, its entries, and the number of torn bytes at its end.
 /// Torn are a last line without a line feed before the first zero byte, and all bytes after it. If no journal was
-/// begun, the result is a new one. The disk is neither read nor changed.
-pub fn recover<D: Disk + Drop>(
+/// begun, the result is a new one. By its type, the call neither reads the disk nor changes it.
+pub fn recover<D: Drop>(
     alloc: Global,
     disk: D,
     bytes: Vec<u8>,
@@ -172,8 +171,8 @@ fn read_all<R: Read>(alloc: Global, reader: &mut R) -> Result<Vec<u8>, OpenFault
 }
 
 /// Reads all bytes of a disk, and returns what [`recover`] finds in them. If their first line is not a journal's, the
-/// rest is not read.
-pub fn found_in<D: Disk + Read + Drop>(
+/// rest is not read. By its type, the call does not write to the disk.
+pub fn found_in<D: Read + Drop>(
     alloc: Global,
     disk: D,
 ) -> Result<(Found<D>, Vec<Entry>, usize), OpenFault>

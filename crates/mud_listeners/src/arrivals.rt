@@ -5,7 +5,7 @@ use crate::options::bound_waits;
 use crate::ready::wait_for_either;
 use libc::{EBADF, EINVAL, ENOTSOCK};
 use log::{Log, error, warn};
-use mud_socket::{Entrance, rest};
+use mud_socket::{Entrance, canonical, rest};
 use std::io::{Error, ErrorKind};
 use std::net::{SocketAddr, TcpListener, TcpStream};
 use std::sync::Wait;
@@ -27,9 +27,9 @@ pub struct Arrivals {
 /// The result of a call for a connection.
 #[derive(Drop)]
 pub enum Arrival {
-    /// A Telnet connection, and the address of its other side.
+    /// A Telnet connection, and the address of its other side. An IPv4-mapped address is given as IPv4.
     Telnet(TcpStream, SocketAddr),
-    /// A browser's connection, and the address of its other side.
+    /// A browser's connection, and the address of its other side. An IPv4-mapped address is given as IPv4.
     Web(TcpStream, SocketAddr),
     /// No connection so far.
     Nobody,
@@ -40,14 +40,6 @@ pub enum Arrival {
 // Returns whether a listener can never give a connection again: it is closed, or is not a listener.
 fn is_for_good(error: &Error) -> bool {
     matches!(error.raw_os_error(), Some(EBADF | EINVAL | ENOTSOCK))
-}
-
-// Returns the entrance of a connection as a word.
-fn way(entrance: Entrance) -> &'static str {
-    match entrance {
-        Entrance::Telnet => "by Telnet",
-        Entrance::Web => "from a browser",
-    }
 }
 
 // Sets the timeout of the listener's calls, if there is a listener. Returns whether it could be set.
@@ -106,12 +98,13 @@ impl Arrivals {
             Ok((stream, peer)) => {
                 self.is_failing = false;
                 match entrance {
-                    Entrance::Telnet => Arrival::Telnet(stream, peer),
-                    Entrance::Web => Arrival::Web(stream, peer),
+                    Entrance::Telnet => Arrival::Telnet(stream, canonical(peer)),
+                    Entrance::Web => Arrival::Web(stream, canonical(peer)),
                 }
             }
             Err(error) if is_for_good(&error) => {
-                error!(rt; "no connection can be taken any more {}: {error}", way(entrance));
+                let by = entrance.word();
+                error!(rt; "closed by={by} why=\"{error}\"");
                 Arrival::Never
             }
             Err(error) => {
@@ -131,7 +124,7 @@ impl Arrivals {
             return;
         }
         if !self.is_failing {
-            warn!(rt; "no connection can be taken for now: {error}");
+            warn!(rt; "no-accept why=\"{error}\"");
             self.is_failing = true;
         }
         rest(rt, Duration::from_millis(REST_MILLISECONDS));

@@ -1,14 +1,17 @@
 //! The log of a server. Logging never blocks.
 
+use crate::files::HostFiles;
+use jiff::Timestamp;
 use log::kv::Source;
 use log::span::Spans;
-use log::{LevelFilter, Line, Log, Metadata, Record};
-use std::alloc::Global;
+use log::{LevelFilter, Log, Metadata, Record};
+use std::alloc::{AllocError, Global};
 use std::fmt::Display;
-use std::io::Eprint;
+use std::fs::File;
+use std::io::{self, Eprint, Write};
 use std::sync::atomic::AtomicU64;
 use std::sync::{Condvar, Mutex, Wait};
-use std::time::Duration;
+use std::time::{Clock, Duration};
 
 // The greatest number of lines that wait for standard error.
 const MOST_LINES: usize = 1024;
@@ -18,7 +21,7 @@ const LAST_LOOKS: u32 = 100;
 
 const LOOK_MILLISECONDS: u64 = 10;
 
-/// The lines of a log that are not written to standard error yet.
+/// The lines of a log that are not written yet.
 #[derive(Drop)]
 struct Waiting {
     // The lines in order.
@@ -27,11 +30,14 @@ struct Waiting {
     dropped: u64,
     // True while a thread writes lines taken from here.
     is_writing: bool,
+    // The file for these lines and all later ones, if it is another than before.
+    file: Option<File>,
 }
 
-/// A log whose lines a thread of its own writes to standard error. A thread that logs waits only for the log's lock,
-/// and no thread writes while it holds that lock. If too many lines wait, or an allocation fails, a line is dropped and
-/// counted, and the next line written reports the count.
+/// A log whose lines a thread of its own writes to standard error, or to a file. Each line begins with its time (RFC
+/// 3339, in UTC). A thread that logs waits only for the log's lock, and no thread writes while it holds that lock. If
+/// too many lines wait, or an allocation fails, a line is dropped and counted, and the next line written reports the
+/// count.
 #[derive(Drop)]
 pub(crate) struct Logbook<R> {
     rt: R,
@@ -46,6 +52,7 @@ impl Waiting {
             lines: Vec::new(alloc),
             dropped: 0,
             is_writing: false,
+            file: None,
         }
     }
 
@@ -61,13 +68,13 @@ impl Waiting {
         }
     }
 
-    // Returns whether there is nothing to write.
+    // Returns whether there is nothing to write, and no new file.
     fn is_empty(&self) -> bool {
-        self.lines.is_empty() && self.dropped == 0
+        self.lines.is_empty() && self.dropped == 0 && self.file.is_none()
     }
 }
 
-impl<R: AllocGlobal + Eprint + Wait> Logbook<R> {
+impl<R: AllocGlobal> Logbook<R> {
     /// Returns a log without lines.
     pub(crate) fn new(rt: R) -> Logbook<R> {
         let waiting = Waiting::new(rt.alloc());
@@ -77,14 +84,37 @@ impl<R: AllocGlobal + Eprint + Wait> Logbook<R> {
             work: Condvar::new(),
         }
     }
+}
+
+impl<R: HostFiles + Wait> Logbook<R> {
+    /// Opens a file, which is created if it does not exist. All lines from now on are appended to it.
+    pub(crate) fn open(&self, name: &str) -> io::Result<()> {
+        let file = self.rt.open_log(name)?;
+        self.waiting.lock(&self.rt).file = Some(file);
+        self.work.notify_one();
+        Ok(())
+    }
+}
+
+impl<R: AllocGlobal + Wait + Clock> Logbook<R> {
+    // Returns a line with its time. The only error is out of memory.
+    fn text<D: Display>(&self, line: &D) -> Result<String, AllocError> {
+        let alloc = self.rt.alloc();
+        match Timestamp::now(&self.rt) {
+            Ok(now) => format!(in alloc; "{now:.3} {line}"),
+            Err(_) => format!(in alloc; "- {line}"),
+        }
+    }
 
     // Appends a line.
     fn add<D: Display>(&self, line: &D) {
-        let text = format!(in self.rt.alloc(); "{line}").ok();
+        let text = self.text(line).ok();
         self.waiting.lock(&self.rt).push(text);
         self.work.notify_one();
     }
+}
 
+impl<R: AllocGlobal + Eprint + Wait + Clock> Logbook<R> {
     // Returns the next lines to write, once there are some.
     fn next(&self) -> Waiting {
         let mut waiting = self.waiting.lock(&self.rt);
@@ -100,16 +130,49 @@ impl<R: AllocGlobal + Eprint + Wait> Logbook<R> {
         std::mem::replace(&mut *waiting, rest)
     }
 
+    // Writes a line to the file, or to standard error if there is no file or the write fails.
+    fn write(&self, file: &mut Option<File>, line: &str) {
+        let is_written = match file {
+            Some(file) => writeln!(file, "{line}").is_ok(),
+            None => false,
+        };
+        if !is_written {
+            let _ = eprintln!(self.rt; "{line}");
+        }
+    }
+
+    // Writes how many lines were dropped.
+    fn write_dropped(&self, file: &mut Option<File>, dropped: u64) {
+        let line = match format!(in self.rt.alloc(); "dropped lines={dropped}") {
+            Ok(said) => self.text(&said).ok(),
+            Err(_) => None,
+        };
+        match line {
+            Some(line) => self.write(file, line.as_str()),
+            None => {
+                let _ = eprintln!(self.rt; "- dropped lines={dropped}");
+            }
+        }
+    }
+
     /// Writes lines as they come. It never returns.
     pub(crate) fn write_all(&self) {
+        let mut file = None;
         for _ in self.rt.forever() {
-            let taken = self.next();
-            for line in &taken.lines {
-                let _ = eprintln!(self.rt; "{line}");
+            let Waiting {
+                lines,
+                dropped,
+                is_writing: _,
+                file: new,
+            } = self.next();
+            if new.is_some() {
+                file = new;
             }
-            if 0 < taken.dropped {
-                let dropped = taken.dropped;
-                let _ = eprintln!(self.rt; "mud_serve: {dropped} lines of the log were dropped");
+            for line in &lines {
+                self.write(&mut file, line.as_str());
+            }
+            if 0 < dropped {
+                self.write_dropped(&mut file, dropped);
             }
         }
     }
@@ -128,14 +191,14 @@ impl<R: AllocGlobal + Eprint + Wait> Logbook<R> {
     }
 }
 
-impl<R: AllocGlobal + Eprint + Wait> Log for Logbook<R> {
+impl<R: AllocGlobal + Eprint + Wait + Clock> Log for Logbook<R> {
     fn enabled(&self, metadata: &Metadata<'_>) -> bool {
         LevelFilter::Info.allows(metadata.level())
     }
 
     fn log<D: Display, K: Source, S: Spans>(&self, record: &Record<'_, D, K, S>) {
         if LevelFilter::Info.allows(record.level()) {
-            self.add(&Line::new(record));
+            self.add(record.args());
         }
     }
 

@@ -1,38 +1,54 @@
 //! `mud_serve`: a server of text worlds.
 //!
-//! `mud_serve script` answers the lines of standard input. `mud_serve listen` serves players who connect by Telnet or
-//! from a browser. docs/SERVER.md has the command lines and the exit statuses.
+//! `mud_serve script` answers the lines of standard input, in a new world or after a history. `mud_serve listen` serves
+//! players who connect by Telnet or from a browser. docs/SERVER.md has the command lines and the exit statuses.
 //!
-//! Threads: the main thread runs the server of `mud_server`. Two more live as long as the program. One writes the log
-//! to standard error, so that no thread of the server blocks on it. The other reads the console from standard input and
-//! sets the stop flag. A bounded queue under a lock has the log's lines; the flag is atomic.
+//! Threads: the main thread runs the server of `mud_server`. The host's threads live as long as the program (`staff`).
+//! One writes the log, so that no thread of the server blocks on it. The others run consoles and answer requests for
+//! the status. A bounded queue under a lock has the log's lines; `mud_control` has the shared state.
 #![tactic(auto)]
 
+mod bans;
+mod checking;
 mod console;
+mod files;
+mod host;
 mod logbook;
+mod metrics;
+mod scripting;
 mod serving;
+mod settings;
+mod staff;
 mod stop;
 
+use crate::checking::check;
 use crate::console::watch;
-use crate::logbook::Logbook;
-use crate::serving::{answer, listen};
+use crate::scripting::answer;
+use crate::serving::listen;
+use crate::settings::{Unsettled, settled};
+use crate::staff::{Staff, remove_control};
 use crate::stop::Stop;
-use log::{Level, Logged};
-use mud_cli::{CommandFault, Listening, Service, service_of, show, words_of};
-use mud_server::StopSign;
+use log::{Level, Logged, info};
+use mud_cli::{CommandFault, Service, service_of, show, version, words_of};
+use mud_server::{Hosting, StopSign};
 use std::alloc::Global;
 use std::io::{Eprint, Print};
 use std::process::ExitCode;
-use std::sync::{Arc, Wait};
+use std::sync::Arc;
 use std::thread;
 
 // The size of the block that is freed before everything else.
 const FREED_BYTES: usize = 1 << 20;
 
 fn main(rt: HostRuntime) -> ExitCode {
-    let words = match words_of(&rt) {
+    let given = match words_of(&rt) {
         Ok(words) => words,
         Err(fault) => return tell_fault(&rt, fault),
+    };
+    let words = match settled(&rt, given) {
+        Ok(words) => words,
+        Err(Unsettled::Words(fault)) => return tell_fault(&rt, fault),
+        Err(Unsettled::File(stop)) => return tell_stop(&rt, stop),
     };
     let service = match service_of(rt.alloc(), words.as_slice()) {
         Ok(service) => service,
@@ -40,58 +56,46 @@ fn main(rt: HostRuntime) -> ExitCode {
     };
     keep_freed(rt.alloc());
     let listening = match service {
-        Service::Script(limits) => return status_of(&rt, answer(&rt, limits)),
+        Service::Script(scripting) => return status_of(&rt, answer(&rt, scripting)),
+        Service::Listen(listening) if listening.is_check => {
+            return status_of(&rt, check(&rt, listening));
+        }
         Service::Listen(listening) => listening,
     };
-    let Some(staff) = Staff::new(rt, rt.alloc()) else {
+    let mut staff = match Staff::new(rt, listening) {
+        Ok(staff) => staff,
+        Err(stop) => return tell_stop(&rt, stop),
+    };
+    let (status_port, may_stop) = (
+        staff.status_port(),
+        listening.console || listening.control.is_some(),
+    );
+    let (Ok(host), Ok(control)) = (staff.host(), Arc::try_clone(&staff.control)) else {
         return tell_stop(&rt, Stop::OutOfMemory);
     };
-    let Staff {
-        book,
-        their_book,
-        sign,
-        their_sign,
-    } = staff;
-    // The program does not join these two threads: it ends while they wait.
-    if thread::spawn(&rt, move || their_book.write_all()).is_err()
-        || listening.console && thread::spawn(&rt, move || watch(&rt, &their_sign)).is_err()
-    {
+    // The prover lets a thread read standard input only if `main` starts it.
+    if !staff.begin(&rt) || listening.console && thread::spawn(&rt, move || watch(&host)).is_err() {
         return tell_stop(&rt, Stop::OutOfMemory);
     }
-    let logged = Logged::new(rt, Level::Info, &*book);
-    let ended = listen(&logged, listening, sign_for(listening, &sign));
-    book.settle();
+    let logged = Logged::new(rt, Level::Info, &*staff.book);
+    info!(logged; "start version={}", version());
+    if let Some(port) = status_port {
+        info!(logged; "status port={port}");
+    }
+    let hosting = Hosting {
+        stop: sign_for(may_stop, &staff.control.sign),
+        control,
+    };
+    let ended = listen(&logged, listening, hosting);
+    info!(logged; "stop");
+    remove_control(&rt, listening.control);
+    staff.book.settle();
     status_of(&rt, ended)
 }
 
-/// The state shared with the thread that writes the log, and the thread that reads the console.
-#[derive(Drop)]
-struct Staff<R> {
-    book: Arc<Logbook<R>>,
-    their_book: Arc<Logbook<R>>,
-    sign: Arc<StopSign>,
-    their_sign: Arc<StopSign>,
-}
-
-impl<R: AllocGlobal + Eprint + Wait + Drop> Staff<R> {
-    // Returns an empty log and a shutdown flag that is not set, each for two threads, or none if an allocation fails.
-    fn new(rt: R, alloc: Global) -> Option<Staff<R>> {
-        let book = Arc::new(alloc, Logbook::new(rt)).ok()?;
-        let their_book = Arc::try_clone(&book).ok()?;
-        let sign = Arc::new(alloc, StopSign::new()).ok()?;
-        let their_sign = Arc::try_clone(&sign).ok()?;
-        Some(Staff {
-            book,
-            their_book,
-            sign,
-            their_sign,
-        })
-    }
-}
-
-// Returns the flag that the console sets, if there is a console.
-fn sign_for<'s>(listening: Listening<'_>, sign: &'s StopSign) -> Option<&'s StopSign> {
-    if listening.console { Some(sign) } else { None }
+// Returns the stop flag, if a console may set it.
+fn sign_for(may_stop: bool, sign: &StopSign) -> Option<&StopSign> {
+    if may_stop { Some(sign) } else { None }
 }
 
 // Returns the exit status after the task was done, or stopped.

@@ -8,16 +8,15 @@ ghost use Rattle.mud_cli.specs.Service.{AreWithin};
 ghost use Rattle.mud_search.specs.declared.limits.TheConstants.{MOST_WORKERS};
 
 use crate::stop::{NoPort, Stop};
-use log::Log;
+use log::{Log, info};
 use mud_chron::Entry;
 use mud_chron::limits::MOST_DESKS;
-use mud_cli::{ChosenLimits, Listening, WebListening};
+use mud_cli::{Listening, WebListening};
 use mud_history_file::load;
-use mud_io::{Sink, Source};
+use mud_io::Sink;
 use mud_journal::{Disk, Found, find_journal};
 use mud_page::PAGE;
-use mud_server::{Doors, Site, StopSign, WebDoor, listen_journaled, listen_on};
-use mud_session::script;
+use mud_server::{Doors, Hosting, Site, WebDoor, listen_journaled, listen_on};
 use std::fs::File;
 use std::io;
 use std::io::Eprint;
@@ -27,30 +26,11 @@ use std::sync::Wait;
 use std::thread::Threads;
 use std::time::Clock;
 
-/// Answers the lines of standard input.
-pub(crate) fn answer<R: Runtime + AllocGlobal + Threads + Wait + Sync>(
-    rt: &R,
-    limits: ChosenLimits,
-) -> Result<(), Stop>
-    requires { AreWithin limits }
-{
-    let mut source = Source::new(rt.reader());
-    let mut sink = Sink::new(io::writer(rt));
-    match script(
-        rt,
-        rt.alloc(),
-        &mut source,
-        &mut sink,
-        limits.capacity,
-        limits.workers,
-    ) {
-        Ok(()) => Ok(()),
-        Err(fault) => Err(Stop::of_script(fault)),
-    }
-}
-
 // Returns the entries that a world continues.
-fn load_entries<R: Runtime + AllocGlobal>(rt: &R, file: Option<&str>) -> Result<Vec<Entry>, Stop> {
+pub(crate) fn load_entries<R: Runtime + AllocGlobal>(
+    rt: &R,
+    file: Option<&str>,
+) -> Result<Vec<Entry>, Stop> {
     match file {
         None => Ok(Vec::new(rt.alloc())),
         Some(name) => match load(rt, name) {
@@ -60,9 +40,9 @@ fn load_entries<R: Runtime + AllocGlobal>(rt: &R, file: Option<&str>) -> Result<
     }
 }
 
-// Returns the entries that a world with a journal continues: those of the journal, or those of the file if the journal
-// has none.
-fn go_on_from<R: Runtime + AllocGlobal>(
+/// Returns the entries that a world with a journal continues: those of the journal, or those of the file if the journal
+/// is empty.
+pub(crate) fn go_on_from<R: Runtime + AllocGlobal>(
     rt: &R,
     file: Option<&str>,
     had: Vec<Entry>,
@@ -79,8 +59,8 @@ fn go_on_from<R: Runtime + AllocGlobal>(
     load_entries(rt, file)
 }
 
-// Prints the number of torn bytes at the journal's end.
-fn tell_torn<R: Eprint>(rt: &R, torn: usize) {
+/// Prints how many bytes at the end of the journal are no whole line.
+pub(crate) fn tell_torn<R: Eprint>(rt: &R, torn: usize) {
     let _ = match torn {
         0 => Ok(()),
         1 => eprintln!(rt; "mud_serve: 1 torn byte at the end of the journal is cut off"),
@@ -88,8 +68,8 @@ fn tell_torn<R: Eprint>(rt: &R, torn: usize) {
     };
 }
 
-// Returns the listener at this address and port.
-fn bind<R: Net<Listener = TcpListener, Stream = TcpStream>>(
+/// Binds a listener at this address and port.
+pub(crate) fn bind<R: Net<Listener = TcpListener, Stream = TcpStream>>(
     rt: &R,
     address: &str,
     port: u16,
@@ -117,8 +97,8 @@ fn web_door<R: AllocGlobal + Net<Listener = TcpListener, Stream = TcpStream>>(
     })
 }
 
-// Returns the listeners that were asked for.
-fn doors<R: AllocGlobal + Net<Listener = TcpListener, Stream = TcpStream>>(
+/// Binds the listeners of the command line.
+pub(crate) fn doors<R: AllocGlobal + Net<Listener = TcpListener, Stream = TcpStream>>(
     rt: &R,
     listening: Listening<'_>,
 ) -> Result<Doors, Stop> {
@@ -128,6 +108,18 @@ fn doors<R: AllocGlobal + Net<Listener = TcpListener, Stream = TcpStream>>(
         None => None,
     };
     Ok(Doors { telnet, web })
+}
+
+// Logs the ports.
+fn log_doors<R: Log>(rt: &R, doors: &Doors) {
+    let Some(ports) = doors.ports() else {
+        return;
+    };
+    let telnet = ports.telnet;
+    match ports.web {
+        Some(web) => info!(rt; "listen port={telnet} web={web}"),
+        None => info!(rt; "listen port={telnet}"),
+    }
 }
 
 /// Serves connections. It reads the files of the journal and of the history before it binds the port.
@@ -141,7 +133,7 @@ pub(crate) fn listen<
         + Clock
         + Sync
         + Net<Listener = TcpListener, Stream = TcpStream>,
->(rt: &R, listening: Listening<'_>, sign: Option<&StopSign>) -> Result<(), Stop>
+>(rt: &R, listening: Listening<'_>, hosting: Hosting<'_>) -> Result<(), Stop>
     requires { AreWithin listening.limits }
 {
     let limits = mud_server::Limits {
@@ -156,8 +148,8 @@ pub(crate) fn listen<
         unnamed: listening.unnamed,
     };
     match listening.journal {
-        None => keep_nothing(rt, listening, limits, sign),
-        Some(name) => keep_journal(rt, listening, limits, sign, name),
+        None => keep_nothing(rt, listening, limits, hosting),
+        Some(name) => keep_journal(rt, listening, limits, hosting, name),
     }
 }
 
@@ -175,7 +167,7 @@ fn keep_nothing<
     rt: &R,
     listening: Listening<'_>,
     limits: mud_server::Limits,
-    sign: Option<&StopSign>,
+    hosting: Hosting<'_>,
 ) -> Result<(), Stop>
     requires sessions { limits.sessions ≤ MOST_DESKS }
     requires workers { limits.workers ≤ MOST_WORKERS }
@@ -184,8 +176,9 @@ fn keep_nothing<
 {
     let entries = load_entries(rt, listening.load)?;
     let doors = doors(rt, listening)?;
+    log_doors(rt, &doors);
     let mut sink = Sink::new(io::writer(rt));
-    match listen_on(rt, doors, limits, entries, sign, &mut sink) {
+    match listen_on(rt, doors, limits, entries, hosting, &mut sink) {
         Ok(()) => Ok(()),
         Err(fault) => Err(Stop::of_listening(&fault)),
     }
@@ -206,7 +199,7 @@ fn keep_journal<
     rt: &R,
     listening: Listening<'_>,
     limits: mud_server::Limits,
-    sign: Option<&StopSign>,
+    hosting: Hosting<'_>,
     name: &str,
 ) -> Result<(), Stop>
     requires sessions { limits.sessions ≤ MOST_DESKS }
@@ -219,8 +212,10 @@ fn keep_journal<
         Err(fault) => return Err(Stop::of_opening(fault)),
     };
     tell_torn(rt, torn);
+    let changes = had.len();
+    info!(rt; "journal changes={changes} torn={torn}");
     let entries = go_on_from(rt, listening.load, had)?;
-    keep_entries(rt, listening, limits, sign, entries, found)
+    keep_entries(rt, listening, limits, hosting, entries, found)
 }
 
 // Serves connections, beginning with these entries, and keeps the world in the journal that was found. It is generic in
@@ -240,7 +235,7 @@ fn keep_entries<
     rt: &R,
     listening: Listening<'_>,
     limits: mud_server::Limits,
-    sign: Option<&StopSign>,
+    hosting: Hosting<'_>,
     entries: Vec<Entry>,
     found: Found<D>,
 ) -> Result<(), Stop>
@@ -252,8 +247,9 @@ fn keep_entries<
     requires within { found.count ≤ length entries.items }
 {
     let doors = doors(rt, listening)?;
+    log_doors(rt, &doors);
     let mut sink = Sink::new(io::writer(rt));
-    match listen_journaled(rt, doors, limits, entries, found, sign, &mut sink) {
+    match listen_journaled(rt, doors, limits, entries, found, hosting, &mut sink) {
         Ok(_) => Ok(()),
         Err(fault) => Err(Stop::of_listening(&fault)),
     }

@@ -1,9 +1,12 @@
 //! The reasons why the program stopped.
 
+use crate::bans::NoBans;
+use mud_hall::ResumeFault;
 use mud_history_file::Unloaded;
 use mud_journal::OpenFault;
 use mud_server::ServerFault;
-use mud_session::ScriptFault;
+use mud_session::{ContinueFault, ScriptFault};
+use std::alloc::AllocError;
 use std::io::ErrorKind;
 use thiserror::Error;
 
@@ -35,6 +38,31 @@ impl NoPort {
             ErrorKind::PermissionDenied => NoPort::Denied,
             ErrorKind::AddrNotAvailable => NoPort::NoSuchAddress,
             kind => NoPort::Other(kind),
+        }
+    }
+}
+
+/// The reason why there is no socket for consoles.
+#[derive(Clone, Copy, Debug, Error)]
+pub(crate) enum NoControl {
+    /// Another server uses it.
+    #[error("in use")]
+    InUse,
+    /// The path has a file that is not a socket.
+    #[error("not a socket")]
+    NotSocket,
+    /// Any other reason of the system.
+    #[error("{0}")]
+    Other(ErrorKind),
+}
+
+impl NoControl {
+    /// Returns the reason why the system did not give a socket.
+    pub(crate) fn of(kind: ErrorKind) -> NoControl {
+        match kind {
+            ErrorKind::AddrInUse => NoControl::InUse,
+            ErrorKind::AlreadyExists => NoControl::NotSocket,
+            kind => NoControl::Other(kind),
         }
     }
 }
@@ -72,9 +100,39 @@ pub(crate) enum Stop {
     /// The world can't continue the file of the journal, or another server uses it.
     #[error("cannot open journal: {0}")]
     Open(OpenFault),
+    /// The settings file can't be read.
+    #[error("cannot read the settings: {0}")]
+    Settings(ErrorKind),
+    /// The file of the bans can't be read.
+    #[error("cannot read the bans: {0}")]
+    Bans(NoBans),
+    /// The log file can't be opened.
+    #[error("cannot open the log: {0}")]
+    Log(ErrorKind),
+    /// The socket for consoles can't be made.
+    #[error("cannot open the control socket: {0}")]
+    Control(NoControl),
     /// A history was to be loaded, and the journal already has one.
     #[error("journal is not empty")]
     NotEmpty,
+    /// The script can't continue the file.
+    #[error("cannot load: {0}")]
+    NotContinued(Unloaded),
+    /// The word for the script's player means no player, or several.
+    #[error("no such player")]
+    NoPlayer,
+    /// The file that the script would make exists.
+    #[error("cannot make history: file exists")]
+    Exists,
+    /// The file with the script's history can't be made.
+    #[error("cannot make history")]
+    NotMade,
+}
+
+impl From<AllocError> for Stop {
+    fn from(_: AllocError) -> Stop {
+        Stop::OutOfMemory
+    }
 }
 
 impl Stop {
@@ -85,6 +143,29 @@ impl Stop {
             ScriptFault::Read => Stop::Read,
             ScriptFault::Write => Stop::Write,
             ScriptFault::TooManyReads => Stop::TooManyReads,
+        }
+    }
+
+    /// Returns the reason why a script has no history.
+    pub(crate) fn of_continuing(fault: ContinueFault) -> Stop {
+        match fault {
+            ContinueFault::Stopped(fault) => Stop::of_script(fault),
+            ContinueFault::NotResumed(ResumeFault::OutOfMemory) => Stop::OutOfMemory,
+            ContinueFault::NotResumed(ResumeFault::BadChange(entry)) => {
+                Stop::NotContinued(Unloaded::Change(entry))
+            }
+            ContinueFault::NotResumed(ResumeFault::OverCapacity) => {
+                Stop::NotContinued(Unloaded::OverCapacity)
+            }
+            ContinueFault::NotResumed(ResumeFault::NoPlayer) => Stop::NoPlayer,
+        }
+    }
+
+    /// Returns the reason why a script did not load its file.
+    pub(crate) fn of_script_file(fault: Unloaded) -> Stop {
+        match fault {
+            Unloaded::OutOfMemory => Stop::OutOfMemory,
+            fault => Stop::NotContinued(fault),
         }
     }
 
@@ -101,6 +182,14 @@ impl Stop {
         match fault {
             OpenFault::OutOfMemory => Stop::OutOfMemory,
             fault => Stop::Open(fault),
+        }
+    }
+
+    /// Returns the reason why there are no bans.
+    pub(crate) fn of_bans(fault: NoBans) -> Stop {
+        match fault {
+            NoBans::OutOfMemory => Stop::OutOfMemory,
+            fault => Stop::Bans(fault),
         }
     }
 
@@ -121,6 +210,7 @@ impl Stop {
     pub(crate) fn status(self) -> u8 {
         match self {
             Stop::OutOfMemory => 4,
+            Stop::NotContinued(_) | Stop::NoPlayer | Stop::Exists => 2,
             _ => 3,
         }
     }

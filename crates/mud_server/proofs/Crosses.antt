@@ -4,7 +4,7 @@ use denote.Ref.{NamedLft}
 use Rattle.std.proofs.Crossing.{crosses}
 use Rattle.mud_listeners.proofs.doors.Listeners.TheSendSync as listeners
 use Rattle.mud_server_state.proofs.limits.Limits.TheSendSync as limits
-use Rattle.mud_server_state.proofs.stop.StopSign.TheSendSync as sign
+use Rattle.mud_control.proofs.sign.StopSign.TheSendSync as sign
 use Rattle.mud_server.specs.contracts.journaled.Serving as Serving
 
 pub serving_send : (ℓ : NamedLft) → IsSend (Serving.the_row ℓ)

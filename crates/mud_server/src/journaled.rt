@@ -13,16 +13,18 @@ ghost use Rattle.mud_journal.specs.Disk.{Holds};
 ghost use Rattle.mud_server_end.specs.Server.{MayEnd, Settles, SettlesInPart, IsServerFault, IsInnerFault};
 ghost use Rattle.mud_search.specs.declared.limits.TheConstants.{MOST_WORKERS};
 
+use crate::census::count_objects;
 use crate::listen::{is_well_ended, ports_of, resume_hall, serve_sessions};
 use log::Log;
 use mud_chron::Entry;
+use mud_control::{Hosting, StopSign};
 use mud_hall::{HallName, NewHall};
 use mud_io::Sink;
 use mud_journal::{Disk, Found, Gate, Journal, JournalFault};
 use mud_listeners::{Doors, Listeners};
 use mud_row::History;
 use mud_server_end::{JournalWriter, ServerFault, settle_journaled, write_entries, write_ports};
-use mud_server_state::{Limits, ServerState, StopSign};
+use mud_server_state::{Limits, ServerState};
 use mud_server_threads::{Server, StateOf};
 use std::alloc::{AllocError, Global};
 use std::io::Write;
@@ -49,11 +51,13 @@ fn write_all<J: HallName, D: Disk + Drop, R: Wait>(
         match writer.write(&state.hall) {
             Ok(receipt) => {
                 state.gate.publish(rt, &receipt);
-                state.wake_all(rt);
+                state.note_synced(rt);
+                state.control.roster.wake_all(rt);
             }
             Err(fault) => {
                 state.gate.fail(rt);
-                state.wake_all(rt);
+                state.control.tally.note_failure();
+                state.control.roster.wake_all(rt);
                 return Err(fault);
             }
         }
@@ -175,7 +179,7 @@ fn serve_all<J: HallName + Send + Sync, D: Disk + Drop, R: Threads + Wait + Log 
     hall: NewHall,
     doors: Doors,
     limits: Limits,
-    stop: Option<&StopSign>,
+    hosting: Hosting<'_>,
     journal: Journal<D>,
 ) -> Result<(History, Journal<D>, bool), ServerFault>
     requires cells { hall.cells ≡ J.cells }
@@ -187,18 +191,19 @@ fn serve_all<J: HallName + Send + Sync, D: Disk + Drop, R: Threads + Wait + Log 
     requires going { journal.has_failed ≡ false }
     ensures ends { IfOk result (λ s. MayEnd limits J.loaded s.0) }
     ensures journaled { IfOk result (λ s. Holds (D.kept s.1.disk) s.0) }
-    ensures total { IfOk result (λ s. IsTrue s.2 → IfNone stop.entry (0 < limits.total)) }
+    ensures total { IfOk result (λ s. IsTrue s.2 → IfNone hosting.entry.stop (0 < limits.total)) }
     ensures fault { IfErr result IsInnerFault }
 {
     let (listeners, site) = doors.into_parts();
+    let Hosting { stop, control } = hosting;
     let hall = hall.with_name::<J>();
     let reader = hall.reader(rt)?;
     let writer = JournalWriter::new(alloc, journal, reader);
     let gate = Gate::new(&writer.receipt());
-    let Ok(state) = ServerState::new(alloc, hall, limits, gate, site) else {
+    let Ok(state) = ServerState::new(alloc, hall, limits, gate, site, control) else {
         return Err(ServerFault::OutOfMemory);
     };
-    state.warn_if_nearly_full(rt, state.hall.loaded_count() as usize);
+    state.begin(rt);
     let (written, is_served) = serve_journaled::<J, D, R>(
         rt, alloc, &state, listeners, limits, stop, writer,
     )?;
@@ -217,7 +222,7 @@ fn serve<D: Disk + Drop, R: Threads + Wait + Log + Clock + Sync>(
     hall: NewHall,
     doors: Doors,
     limits: Limits,
-    stop: Option<&StopSign>,
+    hosting: Hosting<'_>,
     journal: Journal<D>,
 ) -> Result<(History, Journal<D>, bool), ServerFault>
     requires workers { limits.workers ≤ MOST_WORKERS }
@@ -227,10 +232,10 @@ fn serve<D: Disk + Drop, R: Threads + Wait + Log + Clock + Sync>(
     requires going { journal.has_failed ≡ false }
     ensures ends { IfOk result (λ s. MayEnd limits hall.loaded s.0) }
     ensures journaled { IfOk result (λ s. Holds (D.kept s.1.disk) s.0) }
-    ensures total { IfOk result (λ s. IsTrue s.2 → IfNone stop.entry (0 < limits.total)) }
+    ensures total { IfOk result (λ s. IsTrue s.2 → IfNone hosting.entry.stop (0 < limits.total)) }
     ensures fault { IfErr result IsInnerFault }
 {
-    serve_all::<Brand, D, R>(rt, alloc, hall, doors, limits, stop, journal)
+    serve_all::<Brand, D, R>(rt, alloc, hall, doors, limits, hosting, journal)
 }
 
 // Returns copies of the entries.
@@ -260,7 +265,7 @@ pub fn listen_journaled<
     limits: Limits,
     loaded: Vec<Entry>,
     found: Found<D>,
-    stop: Option<&StopSign>,
+    hosting: Hosting<'_>,
     out: &mut Sink<W>,
 ) -> Result<Journal<D>, ServerFault>
     requires sessions { limits.sessions ≤ MOST_DESKS }
@@ -274,15 +279,16 @@ pub fn listen_journaled<
     ensures front { OnErr result (SettlesInPart limits (is_some doors.web) loaded.items
         out.old.holds out.new.holds) }
     ensures fault { IfErr result (IsServerFault limits.capacity loaded.items out.old out.new) }
-    ensures total { OnOk result (IfNone stop.entry (0 < limits.total)) }
+    ensures total { OnOk result (IfNone hosting.entry.stop (0 < limits.total)) }
 {
     let alloc = rt.alloc();
     let more = copies(alloc, &loaded[found.len()..])?;
+    count_objects(&hosting.control.tally, &loaded);
     let hall = resume_hall(alloc, limits.capacity, loaded)?;
     let ports = ports_of(&doors)?;
     let journal = found.begin(alloc, &more)?;
     write_ports(alloc, out, ports)?;
-    let (mut history, journal, is_well) = serve(rt, alloc, hall, doors, limits, stop, journal)?;
+    let (mut history, journal, is_well) = serve(rt, alloc, hall, doors, limits, hosting, journal)?;
     write_entries(alloc, out, &mut history)?;
     if is_well {
         Ok(journal)

@@ -13,8 +13,9 @@
 //! let limits = Limits {
 //!     sessions: 64, per_address: 0, total: 2, counts_players: false, workers: 0, capacity: 1000, idle: 0, unnamed: 0,
 //! };
+//! let hosting = Hosting::alone(rt.alloc(), 64)?;
 //! let mut sink = Sink::new(io::writer(&rt));
-//! listen_on(&rt, doors, limits, Vec::new(rt.alloc()), None, &mut sink)?;
+//! listen_on(&rt, doors, limits, Vec::new(rt.alloc()), hosting, &mut sink)?;
 //! ```
 //!
 //! Proved: the output. With Ok it is the lines that name the ports, and the text of a history. That history can be
@@ -23,11 +24,13 @@
 //! session is served, that a change wakes a thread, or that a desk is returned; tests show it.
 #![tactic(auto)]
 
+mod census;
 mod journaled;
 mod listen;
 
 pub use journaled::listen_journaled;
-pub use listen::listen_on;
+pub use listen::{listen_on, try_entries};
+pub use mud_control::{Control, Hosting, Rates, StopSign};
 pub use mud_listeners::{Doors, Site, WebDoor};
 pub use mud_server_end::ServerFault;
-pub use mud_server_state::{Limits, StopSign};
+pub use mud_server_state::Limits;

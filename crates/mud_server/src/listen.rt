@@ -9,16 +9,19 @@ ghost use Rattle.mud_chron.specs.declared.limits.TheConstants.{MOST_DESKS};
 ghost use Rattle.mud_server_end.specs.Server.{MayEnd, Settles, SettlesInPart, IsServerFault, IsInnerFault};
 ghost use Rattle.mud_search.specs.declared.limits.TheConstants.{MOST_WORKERS};
 
+use crate::census::{count_new, count_objects};
 use log::Log;
 use mud_chron::Entry;
+use mud_control::{Hosting, StopSign};
 use mud_hall::{HallName, LoadFault, NewHall};
 use mud_io::Sink;
 use mud_journal::Gate;
 use mud_listeners::{Arrival, Arrivals, Doors, Listeners, Ports};
 use mud_row::History;
 use mud_server_end::{ServerFault, settle, write_entries, write_ports};
-use mud_server_state::{Limits, ServerState, StopSign};
+use mud_server_state::{Limits, ServerState};
 use mud_server_threads::{Server, StateOf, see_out};
+use mud_socket::now;
 use std::alloc::Global;
 use std::io::Write;
 use std::marker::Brand;
@@ -62,7 +65,12 @@ where
     ensures { IsTrue result → IfNone stop.entry (0 < limits.total) }
 {
     let mut arrivals = arrivals;
+    let mut reader = server.state.hall.reader(server.rt).ok();
     for _ in server.rt.forever() {
+        server.state.control.tick(server.rt, now(server.rt));
+        if let Some(reader) = &mut reader {
+            count_new(server.alloc, server.state, reader);
+        }
         if is_done(stop, limits.total, server.counted_sessions()) {
             return true;
         }
@@ -145,20 +153,21 @@ fn serve_all<J: HallName + Send + Sync, R: Threads + Wait + Log + Clock + Sync>(
     hall: NewHall,
     doors: Doors,
     limits: Limits,
-    stop: Option<&StopSign>,
+    hosting: Hosting<'_>,
 ) -> Result<(History, bool), ServerFault>
     requires cells { hall.cells ≡ J.cells }
     requires loaded { hall.loaded ≡ J.loaded }
     requires workers { limits.workers ≤ MOST_WORKERS }
     requires capacity { limits.capacity ≤ MOST_ENTRIES }
     ensures ends { IfOk result (λ s. MayEnd limits J.loaded s.0) }
-    ensures total { IfOk result (λ s. IsTrue s.1 → IfNone stop.entry (0 < limits.total)) }
+    ensures total { IfOk result (λ s. IsTrue s.1 → IfNone hosting.entry.stop (0 < limits.total)) }
     ensures fault { IfErr result IsInnerFault }
 {
     let (listeners, site) = doors.into_parts();
+    let Hosting { stop, control } = hosting;
     let hall = hall.with_name::<J>();
-    let state = ServerState::new(alloc, hall, limits, Gate::open(), site)?;
-    state.warn_if_nearly_full(rt, state.hall.loaded_count() as usize);
+    let state = ServerState::new(alloc, hall, limits, Gate::open(), site, control)?;
+    state.begin(rt);
     let is_served = serve_sessions(rt, alloc, &state, listeners, limits, stop);
     let Ok((hall, desks)) = state.into_parts(alloc) else {
         return Err(ServerFault::OutOfMemory);
@@ -174,15 +183,15 @@ fn serve<R: Threads + Wait + Log + Clock + Sync>(
     hall: NewHall,
     doors: Doors,
     limits: Limits,
-    stop: Option<&StopSign>,
+    hosting: Hosting<'_>,
 ) -> Result<(History, bool), ServerFault>
     requires workers { limits.workers ≤ MOST_WORKERS }
     requires capacity { limits.capacity ≤ MOST_ENTRIES }
     ensures ends { IfOk result (λ s. MayEnd limits hall.loaded s.0) }
-    ensures total { IfOk result (λ s. IsTrue s.1 → IfNone stop.entry (0 < limits.total)) }
+    ensures total { IfOk result (λ s. IsTrue s.1 → IfNone hosting.entry.stop (0 < limits.total)) }
     ensures fault { IfErr result IsInnerFault }
 {
-    serve_all::<Brand, R>(rt, alloc, hall, doors, limits, stop)
+    serve_all::<Brand, R>(rt, alloc, hall, doors, limits, hosting)
 }
 
 /// Returns the hall that continues the loaded entries.
@@ -214,6 +223,16 @@ pub(crate) fn ports_of(doors: &Doors) -> Result<Ports, ServerFault>
     }
 }
 
+/// Returns an error if a server could not continue these entries. It serves nothing.
+pub fn try_entries(alloc: Global, capacity: u32, loaded: Vec<Entry>) -> Result<(), ServerFault>
+    requires from { 1 ≤ capacity }
+    requires to { capacity ≤ MOST_ENTRIES }
+    ensures fault { IfErr result (λ f. (writer : Writer) → IsServerFault capacity loaded.items writer writer f) }
+{
+    resume_hall(alloc, capacity, loaded)?;
+    Ok(())
+}
+
 /// Serves connections, each with a session of its own at a desk of one hall, which continues the loaded entries.
 ///
 /// First it writes `listening on` and the port, and with a web listener `web on` and its port. A connection without a
@@ -238,7 +257,7 @@ pub fn listen_on<R: Threads + Wait + Log + Clock + Sync + AllocGlobal, W: Write>
     doors: Doors,
     limits: Limits,
     loaded: Vec<Entry>,
-    stop: Option<&StopSign>,
+    hosting: Hosting<'_>,
     out: &mut Sink<W>,
 ) -> Result<(), ServerFault>
     requires sessions { limits.sessions ≤ MOST_DESKS }
@@ -249,13 +268,14 @@ pub fn listen_on<R: Threads + Wait + Log + Clock + Sync + AllocGlobal, W: Write>
     ensures front { OnErr result (SettlesInPart limits (is_some doors.web) loaded.items
         out.old.holds out.new.holds) }
     ensures fault { IfErr result (IsServerFault limits.capacity loaded.items out.old out.new) }
-    ensures total { OnOk result (IfNone stop.entry (0 < limits.total)) }
+    ensures total { OnOk result (IfNone hosting.entry.stop (0 < limits.total)) }
 {
     let alloc = rt.alloc();
+    count_objects(&hosting.control.tally, &loaded);
     let hall = resume_hall(alloc, limits.capacity, loaded)?;
     let ports = ports_of(&doors)?;
     write_ports(alloc, out, ports)?;
-    let (mut history, is_served) = serve(rt, alloc, hall, doors, limits, stop)?;
+    let (mut history, is_served) = serve(rt, alloc, hall, doors, limits, hosting)?;
     write_entries(alloc, out, &mut history)?;
     if is_served {
         Ok(())

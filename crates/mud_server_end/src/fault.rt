@@ -42,14 +42,14 @@ impl From<JournalFault> for ServerFault {
     }
 }
 
-impl From<OpenFault> for ServerFault {
+impl<D: Drop> From<(D, OpenFault)> for ServerFault {
     ghost use Rattle.std.specs.Prelude.{◌≡◌};
     ghost use Rattle.mud_server_end.specs.declared.fault.ServerFault.TheVariants.{Open};
 
-    ghost from_gives = { λ f e. e ≡ Open f };
+    ghost from_gives = { λ f e. e ≡ Open f.1 };
 
-    fn from(f: OpenFault) -> ServerFault {
-        ServerFault::Open(f)
+    fn from(f: (D, OpenFault)) -> ServerFault {
+        ServerFault::Open(f.1)
     }
 }
 

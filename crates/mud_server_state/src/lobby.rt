@@ -7,7 +7,6 @@ use std::alloc::{AllocError, Global};
 use std::net::IpAddr;
 use std::sync::atomic::{AtomicBool, AtomicU32, AtomicU64, Ordering};
 use std::sync::{Arc, Mutex, Wait};
-use std::time::Duration;
 
 // The number of chairs: browsers whose head is being read.
 const CHAIRS: u32 = 32;
@@ -40,8 +39,6 @@ pub struct Lobby {
     started: AtomicU32,
     begun: AtomicU32,
     is_closed: AtomicBool,
-    // The second in which the log last named a request at the Telnet port; 0 means never.
-    logged: AtomicU64,
 }
 
 // Returns this many free chairs.
@@ -146,7 +143,6 @@ impl Lobby {
             started: AtomicU32::new(0),
             begun: AtomicU32::new(0),
             is_closed: AtomicBool::new(false),
-            logged: AtomicU64::new(0),
         })
     }
 
@@ -272,11 +268,5 @@ impl Lobby {
     /// Returns the number of sessions that have begun, if these count for a total.
     pub fn begun_count(&self) -> u32 {
         self.begun.load(Ordering::SeqCst)
-    }
-
-    /// Returns whether the log may name a request at the Telnet port now: at most once in each second.
-    pub fn may_log_request(&self, now: Duration) -> bool {
-        let second = now.as_secs().saturating_add(1);
-        self.logged.swap(second, Ordering::SeqCst) != second
     }
 }

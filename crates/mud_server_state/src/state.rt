@@ -6,12 +6,12 @@ ghost use Rattle.mud_search.specs.declared.limits.TheConstants.{MOST_WORKERS};
 use crate::limits::Limits;
 use crate::lobby::Lobby;
 use crate::place::{NoPlace, Place};
-use crossbeam_utils::sync::Unparker;
 use log::{Log, warn};
+use mud_control::Control;
 use mud_hall::{Desk, Fault, Hall, HallName};
 use mud_journal::Gate;
 use mud_listeners::Site;
-use mud_socket::{Ending, Parting, Socket};
+use mud_socket::Ending;
 use std::alloc::{AllocError, Global};
 use std::net::IpAddr;
 use std::sync::atomic::{AtomicBool, AtomicU32, Ordering};
@@ -23,28 +23,16 @@ pub struct Places<J: HallName> {
     list: Vec<Mutex<Place<J>>>,
 }
 
-/// The waker of a session's notice thread, and the session's socket.
-#[derive(Drop)]
-pub struct Waker {
-    pub unparker: Unparker,
-    pub socket: Arc<Socket>,
-}
-
-/// The waker of the session at each place. Each has a lock of its own, under which no other lock is taken.
-#[derive(Drop)]
-pub struct Wakers {
-    list: Vec<Mutex<Option<Waker>>>,
-}
-
 /// The state that all threads of a server share.
 ///
-/// There is one instance, `StateOf` of `mud_server_threads`. The hall, the places and the wakers are type parameters,
-/// because the prover finds that threads may share the state only by a lemma about its parts.
+/// There is one instance, `StateOf` of `mud_server_threads`. The hall and the places are type parameters, because the
+/// prover finds that threads may share the state only by a lemma about its parts.
 #[derive(Drop)]
-pub struct ServerState<H, P, W> {
+pub struct ServerState<H, P> {
     pub hall: H,
     places: P,
-    wakers: W,
+    /// The state that the server shares with the threads of its host.
+    pub control: Arc<Control>,
     pub lobby: Lobby,
     pub limits: Limits,
     pub gate: Gate,
@@ -71,16 +59,7 @@ fn free_places<J: HallName>(alloc: Global, sessions: u32) -> Result<Places<J>, A
     Ok(Places { list })
 }
 
-// Returns this many places without a waker.
-fn no_wakers(alloc: Global, sessions: u32) -> Result<Wakers, AllocError> {
-    let mut list = Vec::new(alloc);
-    for _ in 0..sessions {
-        list.push(Mutex::new(None))?;
-    }
-    Ok(Wakers { list })
-}
-
-impl<H, P, W> ServerState<H, P, W> {
+impl<H, P> ServerState<H, P> {
     /// Returns the number of places taken.
     pub fn session_count(&self) -> u32 {
         self.taken.load(Ordering::SeqCst)
@@ -112,17 +91,23 @@ impl<H, P, W> ServerState<H, P, W> {
         }
     }
 
+    /// Records for the host how many entries the journal has synced.
+    pub fn note_synced<R: Wait>(&self, rt: &R) {
+        let synced = self.gate.synced_count(rt) as u64;
+        self.control.tally.note_synced(synced);
+    }
+
     /// Logs a warning, once, if the history has at least nine tenths of the changes that it can hold.
     pub fn warn_if_nearly_full<R: Log>(&self, rt: &R, changes: usize) {
         let most = self.limits.capacity as usize;
         if changes < most - most / 10 || self.was_warned.swap(true, Ordering::SeqCst) {
             return;
         }
-        warn!(rt; "the history has {changes} of {most} changes: stop the server, shorten the history, and go on");
+        warn!(rt; "nearly-full changes={changes} most={most}");
     }
 }
 
-impl<J: HallName> ServerState<Hall<J>, Places<J>, Wakers> {
+impl<J: HallName> ServerState<Hall<J>, Places<J>> {
     /// Returns the state of a new server, with as many free places as there may be sessions.
     pub fn new(
         alloc: Global,
@@ -130,14 +115,15 @@ impl<J: HallName> ServerState<Hall<J>, Places<J>, Wakers> {
         limits: Limits,
         gate: Gate,
         site: Option<Site>,
-    ) -> Result<ServerState<Hall<J>, Places<J>, Wakers>, AllocError>
+        control: Arc<Control>,
+    ) -> Result<ServerState<Hall<J>, Places<J>>, AllocError>
         requires { limits.workers ≤ MOST_WORKERS }
         ensures { IfOk result (λ state. length state.places.list.items ≡ limits.sessions) }
     {
         Ok(ServerState {
             hall,
             places: free_places(alloc, limits.sessions)?,
-            wakers: no_wakers(alloc, limits.sessions)?,
+            control,
             lobby: Lobby::new(alloc, site)?,
             limits,
             gate,
@@ -147,6 +133,16 @@ impl<J: HallName> ServerState<Hall<J>, Places<J>, Wakers> {
             is_stopping: AtomicBool::new(false),
             was_warned: AtomicBool::new(false),
         })
+    }
+
+    /// Records for the host what the server continues, and logs a warning if the history is nearly full.
+    pub fn begin<R: Wait + Log>(&self, rt: &R) {
+        let loaded = self.hall.loaded_count();
+        self.control.tally.note_changes(u64::from(loaded));
+        if !self.gate.is_open() {
+            self.note_synced(rt);
+        }
+        self.warn_if_nearly_full(rt, loaded as usize);
     }
 
     /// Takes the free place with the lowest number for a session of this address. The session itself counts for its
@@ -240,50 +236,13 @@ impl<J: HallName> ServerState<Hall<J>, Places<J>, Wakers> {
         true
     }
 
-    /// Sets the waker of the session at a place.
-    pub fn set_waker<R: Wait>(&self, rt: &R, at: usize, new: Waker) {
-        if let Some(waker) = self.wakers.list.get(at) {
-            *waker.lock(rt) = Some(new);
-        }
-    }
-
     /// Announces that the hall has at least this many entries, the last one by the session at this place. With a
     /// journal the writing thread wakes the others once those entries are synced; without one they are woken here.
     pub fn announce_change<R: Wait>(&self, rt: &R, at: usize, version: usize) {
         if self.gate.is_open() {
-            self.wake_others(rt, at);
+            self.control.roster.wake_others(rt, at);
         } else {
             self.gate.want(rt, version);
-        }
-    }
-
-    // Wakes the notice threads of the sessions at all other places.
-    fn wake_others<R: Wait>(&self, rt: &R, at: usize) {
-        for (other, waker) in self.wakers.list.iter().enumerate() {
-            if other != at
-                && let Some(waker) = &*waker.lock(rt)
-            {
-                waker.unparker.unpark();
-            }
-        }
-    }
-
-    /// Wakes the notice threads of all sessions.
-    pub fn wake_all<R: Wait>(&self, rt: &R) {
-        for waker in &self.wakers.list {
-            if let Some(waker) = &*waker.lock(rt) {
-                waker.unparker.unpark();
-            }
-        }
-    }
-
-    /// Shuts the sockets of all sessions, for this reason.
-    pub fn shut_all<R: Wait>(&self, rt: &R, ending: Ending) {
-        for waker in &self.wakers.list {
-            if let Some(waker) = &*waker.lock(rt) {
-                waker.socket.part(rt, Parting::of_all(ending));
-                waker.socket.shut();
-            }
         }
     }
 
@@ -296,11 +255,7 @@ impl<J: HallName> ServerState<Hall<J>, Places<J>, Wakers> {
 
     /// Releases a place; a stored desk stays. The notice thread of its session is woken, so that it ends.
     pub fn release_place<R: Wait>(&self, rt: &R, at: usize) {
-        if let Some(waker) = self.wakers.list.get(at)
-            && let Some(waker) = waker.lock(rt).take()
-        {
-            waker.unparker.unpark();
-        }
+        self.control.roster.leave(rt, at);
         if let Some(place) = self.places.list.get(at) {
             place.lock(rt).release();
             self.taken.fetch_sub(1, Ordering::SeqCst);
@@ -314,7 +269,7 @@ impl<J: HallName> ServerState<Hall<J>, Places<J>, Wakers> {
         let ServerState {
             hall,
             places,
-            wakers: _,
+            control: _,
             lobby: _,
             limits: _,
             gate: _,

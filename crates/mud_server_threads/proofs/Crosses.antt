@@ -9,9 +9,7 @@ use Rattle.mud_hall.specs.declared.name.HallName as HallName
 use Rattle.mud_hall.proofs.Crosses.{hall_sync}
 use Rattle.mud_client.proofs.Crosses.{client_send}
 use Rattle.mud_server_state.proofs.Crosses.{places_sync}
-use Rattle.mud_server_state.proofs.state.Wakers.TheSendSync as wakers
 use Rattle.mud_server_state.proofs.state.ServerState.TheSendSync as state
-use Rattle.mud_server_state.specs.contracts.state.Wakers as Wakers
 use Rattle.mud_server_state.specs.contracts.state.ServerState as ServerState
 use Rattle.mud_server_state.specs.contracts.state.Places as Places
 use Rattle.mud_server_threads.specs.contracts.connection.Connection as Connection
@@ -19,8 +17,8 @@ use Rattle.mud_server_threads.specs.contracts.server.Server as Server
 
 -- a server's state, by its parts
 pub state_sync : (J : RattleType) (h : HallName.Ghosts J.Denot) → IsSend J → IsSync J
-    → IsSync (ServerState.the_row (Hall.the_row J h) (Places.the_row J h) Wakers.the_row)
-state_sync J h s y = state.the_sync _ _ _ (hall_sync J h s y) (places_sync J h s) wakers.the_sync
+    → IsSync (ServerState.the_row (Hall.the_row J h) (Places.the_row J h))
+state_sync J h s y = state.the_sync _ _ (hall_sync J h s y) (places_sync J h s)
 
 pub connection_send : (J : RattleType) (h : HallName.Ghosts J.Denot) → IsSend J → IsSend (Connection.the_row J h)
 connection_send J h s = search (sendable, crosses, client_send) depth 40 fits 20000

@@ -131,8 +131,12 @@ where
         })
     }
 
-    /// Starts a thread that reads a browser's request. A browser without a chair in the lobby is sent away.
+    /// Starts a thread that reads a browser's request. A browser without a chair in the lobby, or with a banned
+    /// address, is sent away.
     pub fn receive(&self, stream: TcpStream, peer: SocketAddr) {
+        if !self.may_come(peer.ip()) {
+            return;
+        }
         let Some(guest) = self.enter_lobby(stream, peer.ip()) else {
             return;
         };

@@ -1,11 +1,11 @@
 //! Ends the sessions after the last connection was accepted.
 
 use crate::connection::StateOf;
+use mud_control::StopSign;
 use mud_hall::HallName;
-use mud_server_state::StopSign;
-use mud_socket::{Ending, rest};
+use mud_socket::{Ending, now, rest};
 use std::sync::Wait;
-use std::time::Duration;
+use std::time::{Clock, Duration};
 
 // How long the server waits between two checks of its sessions.
 const LOOK_MILLISECONDS: u64 = 50;
@@ -15,7 +15,7 @@ const LAST_LOOKS: u32 = 100;
 
 /// Waits until no session is left. Once the server is shutting down or the journal has failed, the sessions should end
 /// too; a socket that is not shut within five seconds is shut then.
-pub fn see_out<J: HallName, R: Wait>(rt: &R, state: &StateOf<J>, stop: Option<&StopSign>) {
+pub fn see_out<J: HallName, R: Wait + Clock>(rt: &R, state: &StateOf<J>, stop: Option<&StopSign>) {
     if stop.is_none() && state.gate.is_open() {
         return;
     }
@@ -31,17 +31,18 @@ fn is_empty<J: HallName, R: Wait>(rt: &R, state: &StateOf<J>) -> bool {
 }
 
 // Waits until no session is left, or those that are left should end. Returns the reason for that, if there is one.
-fn wait_for_ending<J: HallName, R: Wait>(
+fn wait_for_ending<J: HallName, R: Wait + Clock>(
     rt: &R,
     state: &StateOf<J>,
     stop: Option<&StopSign>,
 ) -> Option<Ending> {
     for _ in rt.forever() {
+        state.control.tick(rt, now(rt));
         if let Some(sign) = stop
             && sign.is_set()
         {
             state.stop_sessions();
-            state.wake_all(rt);
+            state.control.roster.wake_all(rt);
         }
         if let Some(ending) = state.ending(rt) {
             return Some(ending);
@@ -63,5 +64,5 @@ fn shut_late<J: HallName, R: Wait>(rt: &R, state: &StateOf<J>, ending: Ending) {
         }
         rest(rt, Duration::from_millis(LOOK_MILLISECONDS));
     }
-    state.shut_all(rt, ending);
+    state.control.roster.shut_all(rt, ending);
 }

@@ -1,9 +1,10 @@
 //! Connections: the two threads of a session share one, and these are their common operations.
 
 use mud_client::{Client, End, Framing, Outgoing, Sayings};
+use mud_control::Control;
 use mud_hall::{Hall, HallName};
 use mud_journal::{Gate, Held};
-use mud_server_state::{Places, ServerState, Wakers};
+use mud_server_state::{Places, ServerState};
 use mud_socket::{Ending, Entrance, Parting, Socket, rest};
 use std::alloc::Global;
 use std::sync::atomic::{AtomicBool, AtomicU64, Ordering};
@@ -11,7 +12,7 @@ use std::sync::{Arc, Mutex, Wait};
 use std::time::{Clock, Duration};
 
 /// The state of the hall that `J` names.
-pub type StateOf<J> = ServerState<Hall<J>, Places<J>, Wakers>;
+pub type StateOf<J> = ServerState<Hall<J>, Places<J>>;
 
 /// A connection: its socket, and its client during the session. Only the reader thread and the notice thread of the
 /// session take the session's lock.
@@ -23,13 +24,15 @@ pub(crate) struct Connection<J: HallName> {
     answered: AtomicU64,
     // True once the reader thread ends the session and owns the socket.
     hangs_up: AtomicBool,
+    // The number of the host's announcements that came before the session, or were sent to it.
+    told: AtomicU64,
 }
 
-// The number of attempts, four seconds in all, to send the last line to a busy session, and the pause between two of
-// them.
-const CLOSE_TRIES: u32 = 80;
+/// The number of attempts, four seconds in all, to send the last line to a busy session, and the pause between two of
+/// them.
+pub(crate) const CLOSE_TRIES: u32 = 80;
 
-const CLOSE_MILLISECONDS: u64 = 50;
+pub(crate) const CLOSE_MILLISECONDS: u64 = 50;
 
 // Returns the number of synced entries, as far as sessions count.
 pub(crate) fn synced_entries<R: Wait, J: HallName>(rt: &R, state: &StateOf<J>) -> u32 {
@@ -46,13 +49,14 @@ fn parting_of(end: End) -> Parting {
 }
 
 impl<J: HallName> Connection<J> {
-    /// Returns a connection whose session has not begun.
-    pub(crate) fn new(socket: Arc<Socket>) -> Connection<J> {
+    /// Returns a connection whose session has not begun. It does not get the first `told` announcements.
+    pub(crate) fn new(socket: Arc<Socket>, told: u64) -> Connection<J> {
         Connection {
             socket,
             client: Mutex::new(None),
             answered: AtomicU64::new(0),
             hangs_up: AtomicBool::new(false),
+            told: AtomicU64::new(told),
         }
     }
 
@@ -88,6 +92,15 @@ impl<J: HallName> Connection<J> {
     /// Returns whether the reader thread ends the session.
     pub(crate) fn is_hanging_up(&self) -> bool {
         self.hangs_up.load(Ordering::SeqCst)
+    }
+
+    /// Returns the reason why the session should end from outside, if it should: all sessions end, or the host ends
+    /// this one.
+    pub(crate) fn ending<R: Wait>(&self, rt: &R, state: &StateOf<J>) -> Option<Ending> {
+        match state.ending(rt) {
+            Some(ending) => Some(ending),
+            None => self.socket.dismissal(),
+        }
     }
 
     /// Sends a browser the answer to its head. Returns whether it took the answer.
@@ -175,7 +188,7 @@ impl<J: HallName> Connection<J> {
         match parting {
             None => true,
             Some(Parting::JournalFault) => {
-                self.end_with_all(rt, client, Ending::JournalFault);
+                self.end(rt, client, Ending::JournalFault);
                 false
             }
             Some(parting) => {
@@ -185,16 +198,11 @@ impl<J: HallName> Connection<J> {
         }
     }
 
-    /// Sends why all sessions end, under the session's lock.
-    pub(crate) fn end_with_all<R: Wait>(
-        &self,
-        rt: &R,
-        client: &mut Option<Client<J>>,
-        ending: Ending,
-    ) {
+    /// Sends why the session is ended from outside, under the session's lock.
+    pub(crate) fn end<R: Wait>(&self, rt: &R, client: &mut Option<Client<J>>, ending: Ending) {
         match self.socket.entrance() {
             Entrance::Telnet => self.socket.tell_ending(rt, ending),
-            Entrance::Web => self.close(rt, client, Parting::of_all(ending)),
+            Entrance::Web => self.close(rt, client, Parting::of_ending(ending)),
         }
     }
 
@@ -227,7 +235,8 @@ impl<J: HallName> Connection<J> {
         false
     }
 
-    /// Sends why all sessions end. With Telnet the socket is then shut; the other side of a web socket closes it.
+    /// Sends why the session is ended from outside. With Telnet the socket is then shut; the other side of a web socket
+    /// closes it.
     pub(crate) fn tell_ending<R: Wait>(&self, rt: &R, ending: Ending) {
         match self.socket.entrance() {
             Entrance::Telnet => {
@@ -235,13 +244,13 @@ impl<J: HallName> Connection<J> {
                 self.socket.shut();
             }
             Entrance::Web => {
-                self.part(rt, Parting::of_all(ending));
+                self.part(rt, Parting::of_ending(ending));
             }
         }
     }
 
-    // Sends to a Telnet session why all sessions end, if the session's lock becomes free within four seconds. Otherwise
-    // the line would be inside a text that is being sent.
+    // Sends to a Telnet session why it is ended from outside, if the session's lock becomes free within four seconds.
+    // Otherwise the line would be inside a text that is being sent.
     fn say_ending<R: Wait>(&self, rt: &R, ending: Ending) {
         for _ in 0..CLOSE_TRIES {
             if let Some(_guard) = self.client.try_lock() {
@@ -249,6 +258,53 @@ impl<J: HallName> Connection<J> {
                 return;
             }
             rest(rt, Duration::from_millis(CLOSE_MILLISECONDS));
+        }
+    }
+
+    /// Sends the host's announcements that the session did not get yet, under the session's lock, each once and between
+    /// two texts. Returns whether the session continues.
+    pub(crate) fn tell_news<R: Wait + Clock>(
+        &self,
+        rt: &R,
+        control: &Control,
+        client: &mut Option<Client<J>>,
+    ) -> bool {
+        for _ in rt.forever() {
+            let told = self.told.load(Ordering::SeqCst);
+            if control.news.count() <= told {
+                return true;
+            }
+            let Some((line, count)) = control.news.after(rt, told) else {
+                return true;
+            };
+            self.told.store(count, Ordering::SeqCst);
+            if !self.send_line(rt, client, line.as_str()) {
+                return false;
+            }
+        }
+        unreachable!()
+    }
+
+    // Sends a line of the server's own, under the session's lock. Returns whether the session continues.
+    fn send_line<R: Wait + Clock>(
+        &self,
+        rt: &R,
+        client: &mut Option<Client<J>>,
+        line: &str,
+    ) -> bool {
+        let Some(client) = client else {
+            return false;
+        };
+        let text = client.announce(line);
+        if text.is_empty() {
+            return true;
+        }
+        match self.socket.send(rt, text.as_slice()) {
+            Ok(()) => true,
+            Err(parting) => {
+                self.socket.part(rt, parting);
+                false
+            }
         }
     }
 
@@ -263,6 +319,16 @@ impl<J: HallName> Connection<J> {
         };
         let (after, outgoing) = before.nudge(&state.hall, state.limits.workers, most);
         *guard = Some(after);
-        self.send(rt, state, &mut guard, outgoing)
+        self.send(rt, state, &mut guard, outgoing) && self.tell_news(rt, &state.control, &mut guard)
+    }
+
+    /// Returns the player of the session and the player's first name, if there is one.
+    pub(crate) fn who<R: Wait>(&self, rt: &R, hall: &Hall<J>) -> Option<(u32, String)> {
+        let mut guard = self.client.lock(rt);
+        let answer = guard.as_mut()?.look_at_me(hall)?;
+        let (name, number) = answer.text.lines().next()?.rsplit_once(" #")?;
+        let player = number.parse::<u32>().ok()?;
+        let name = String::from_str(*answer.text.allocator(), name).ok()?;
+        Some((player, name))
     }
 }

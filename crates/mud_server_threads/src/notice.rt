@@ -1,9 +1,9 @@
 //! Runs the notice thread of a session.
 
-use crate::connection::{Connection, StateOf};
+use crate::connection::{CLOSE_MILLISECONDS, CLOSE_TRIES, Connection, StateOf};
 use crossbeam_utils::sync::Parker;
 use mud_hall::HallName;
-use mud_socket::{Parting, now, rest};
+use mud_socket::{Ending, Parting, now, rest};
 use std::sync::Wait;
 use std::time::{Clock, Duration};
 
@@ -27,7 +27,7 @@ fn pause<J: HallName>(state: &StateOf<J>) -> Duration {
 }
 
 // Waits while the answers to the player's own lines bring the changes of others, which saves texts: until no line was
-// answered for the length of a rest, or all sessions end.
+// answered for the length of a rest, or the session should end.
 fn leave_to_reader<J: HallName, R: Wait + Clock>(
     rt: &R,
     state: &StateOf<J>,
@@ -37,7 +37,7 @@ fn leave_to_reader<J: HallName, R: Wait + Clock>(
         let Some(answered) = connection.last_answer() else {
             return;
         };
-        if state.ending(rt).is_some() {
+        if connection.ending(rt, state).is_some() {
             return;
         }
         let since = now(rt).saturating_sub(answered);
@@ -45,12 +45,23 @@ fn leave_to_reader<J: HallName, R: Wait + Clock>(
     }
 }
 
-/// Runs the notice thread of a session: each time it is woken, the session looks for changes of others. If that fails,
-/// the shut socket ends the reader thread, unless that is already ending.
+// Gives the other side of a web socket four seconds to close it, after the host ended the session.
+fn see_off<J: HallName, R: Wait>(rt: &R, connection: &Connection<J>) {
+    for _ in 0..CLOSE_TRIES {
+        if connection.is_hanging_up() {
+            return;
+        }
+        rest(rt, Duration::from_millis(CLOSE_MILLISECONDS));
+    }
+    connection.socket().shut();
+}
+
+/// Runs the notice thread of a session: each time it is woken, the session looks for changes of others, and gets the
+/// announcements of the host. If that fails, the shut socket ends the reader thread, unless that is already ending.
 ///
-/// It checks whether all sessions end before the first sleep too, because the wake-up for that may have come already.
-/// While it rests, a wake-up is kept and costs the waking thread no system call. So in a busy world several changes are
-/// sent together.
+/// It checks whether the session should end before the first sleep too, because the wake-up for that may have come
+/// already. While it rests, a wake-up is kept and costs the waking thread no system call. So in a busy world several
+/// changes are sent together.
 pub(crate) fn tell_all<J: HallName, R: Wait + Clock>(
     rt: &R,
     state: &StateOf<J>,
@@ -58,12 +69,15 @@ pub(crate) fn tell_all<J: HallName, R: Wait + Clock>(
     sleeper: &Sleeper,
 ) {
     for _ in rt.forever() {
-        if state.ending(rt).is_none() {
+        if connection.ending(rt, state).is_none() {
             sleeper.parker.park(rt);
         }
         leave_to_reader(rt, state, connection);
-        if let Some(ending) = state.ending(rt) {
+        if let Some(ending) = connection.ending(rt, state) {
             connection.tell_ending(rt, ending);
+            if let Ending::ByHost = ending {
+                see_off(rt, connection);
+            }
             return;
         }
         if !connection.look(rt, state) {

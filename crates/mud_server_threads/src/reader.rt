@@ -5,23 +5,31 @@ ghost use Rattle.std.specs.Prelude.{◌≤◌, length, IfOk};
 use crate::connection::{Connection, StateOf};
 use log::{Log, info, warn};
 use mud_client::Outgoing;
+use mud_control::{Pace, Refusal};
 use mud_hall::HallName;
-use mud_socket::{Entrance, Parting, Patience, now};
+use mud_socket::{Entrance, Parting, Patience, now, rest};
 use mud_web::{FirstLine, Verdict};
 use std::net::SocketAddr;
 use std::sync::Wait;
 use std::thread::Threads;
-use std::time::Clock;
+use std::time::{Clock, Duration};
 
 const BUFFER_LEN: usize = 4096;
+
+// The longest wait between two checks whether the session should end.
+const SLICE_MILLISECONDS: u64 = 100;
+
+// The number of seconds without a wait after which the log names the next wait.
+const EPISODE_SECONDS: u64 = 60;
 
 // The number of seconds after which the log names a Telnet session that has sent nothing to distinguish it from a
 // browser.
 const SILENT_SECONDS: u32 = 1;
 
 // The state of a reader thread. It has the connection, the place of its session and the number of its desk, how long
-// the log waits to name it, and its time limits. Flags say what is known about its first line, whether it has begun,
-// was named in the log, and counts as a player's.
+// the log waits to name it, its time limits and its rate limits. Flags say what is known about its first line, whether
+// it has begun, was named in the log, counts as a player's, and has a player. It also has that player, and the time of
+// its last wait.
 #[derive(Drop)]
 struct Reading<'a, J: HallName, R> {
     rt: &'a R,
@@ -36,6 +44,10 @@ struct Reading<'a, J: HallName, R> {
     has_begun: bool,
     is_named: bool,
     is_counted: bool,
+    pace: Pace,
+    has_player: bool,
+    player: Option<(u32, String)>,
+    last_wait: Option<Duration>,
 }
 
 impl<'a, J: HallName, R: Threads + Wait + Log + Clock + Sync> Reading<'a, J, R> {
@@ -48,19 +60,25 @@ impl<'a, J: HallName, R: Threads + Wait + Log + Clock + Sync> Reading<'a, J, R> 
         number: u32,
     ) -> Reading<'a, J, R> {
         let (socket, start) = (connection.socket(), now(rt));
+        let (peer, control) = (socket.peer(), &state.control);
+        let shared = control.crowd.begin(rt, peer.ip(), start);
         Reading {
             rt,
             state,
             connection,
             at,
             number,
-            peer: socket.peer(),
+            peer,
             moment: Patience::new(0, SILENT_SECONDS, start),
             patience: Patience::new(state.limits.idle, state.limits.unnamed, start),
             first_line: FirstLine::new(),
             has_begun: socket.entrance() == Entrance::Web,
             is_named: false,
             is_counted: false,
+            pace: Pace::new(&control.rates, shared, start),
+            has_player: false,
+            player: None,
+            last_wait: None,
         }
     }
 
@@ -69,8 +87,10 @@ impl<'a, J: HallName, R: Threads + Wait + Log + Clock + Sync> Reading<'a, J, R> 
         if !self.is_named {
             self.is_named = true;
             self.connection.socket().wait_for_ever();
+            self.state.control.tally.count_session();
             let (number, peer) = (self.number, self.peer);
-            info!(self.rt; "desk {number}: a session of {peer} begins");
+            let by = self.connection.socket().entrance().word();
+            info!(self.rt; "begin session={number} from={peer} by={by}");
         }
     }
 
@@ -102,7 +122,72 @@ impl<'a, J: HallName, R: Threads + Wait + Log + Clock + Sync> Reading<'a, J, R> 
 
     // Records that a line came now.
     fn hear(&mut self) {
-        self.patience.hear(now(self.rt));
+        let now = now(self.rt);
+        self.patience.hear(now);
+        self.connection.socket().hear(now);
+    }
+
+    // Counts a wait. The log names it, unless the session waited less than a minute ago.
+    fn note_wait(&mut self, now: Duration) {
+        self.state.control.tally.count_wait();
+        let is_new = match self.last_wait {
+            Some(last) => now.saturating_sub(last) > Duration::from_secs(EPISODE_SECONDS),
+            None => true,
+        };
+        self.last_wait = Some(now);
+        if is_new {
+            let (number, peer) = (self.number, self.peer);
+            info!(self.rt; "slow session={number} from={peer}");
+        }
+    }
+
+    // Waits until the rate limits allow one more line, or the session should end. Meanwhile no lock is held, and
+    // nothing is read.
+    fn keep_pace(&mut self) {
+        let (rt, state) = (self.rt, self.state);
+        for round in 0..u64::MAX {
+            let moment = now(rt);
+            let Some(wait) = self.pace.take_line(rt, moment) else {
+                return;
+            };
+            if self.connection.ending(rt, state).is_some() {
+                return;
+            }
+            if round == 0 {
+                self.note_wait(moment);
+            }
+            rest(rt, wait.min(Duration::from_millis(SLICE_MILLISECONDS)));
+        }
+    }
+
+    // Counts an answered line for the rate limits and for the host. A line end without an answer, such as the second
+    // one of CR LF, keeps its token for the next line.
+    fn spend(&mut self, took: Duration, outgoing: &Outgoing) {
+        let (rt, tally) = (self.rt, &self.state.control.tally);
+        if outgoing.has_line && outgoing.text.is_empty() {
+            self.pace.give_back();
+        } else if outgoing.has_line {
+            tally.count_line();
+        }
+        self.pace
+            .spend(rt, now(rt), took, outgoing.accepted.is_some());
+    }
+
+    // Names the session's player in the log and for the host, once there is one.
+    fn learn_player(&mut self) {
+        if !self.has_player || self.player.is_some() {
+            return;
+        }
+        let (rt, state) = (self.rt, self.state);
+        let Some((player, name)) = self.connection.who(rt, &state.hall) else {
+            return;
+        };
+        let number = self.number;
+        info!(rt; "player session={number} player=#{player} name=\"{name}\"");
+        if let Ok(copy) = name.clone() {
+            state.control.roster.name(rt, self.at, player, copy);
+        }
+        self.player = Some((player, name));
     }
 
     // Announces a change of the session to the others: there are at least that many entries. With its first change it
@@ -112,6 +197,7 @@ impl<'a, J: HallName, R: Threads + Wait + Log + Clock + Sync> Reading<'a, J, R> 
             return;
         };
         self.state.announce_change(self.rt, self.at, version);
+        self.state.control.tally.count_change(version as u64);
         self.state.warn_if_nearly_full(self.rt, version);
         if !self.is_counted {
             self.is_counted = true;
@@ -124,6 +210,7 @@ impl<'a, J: HallName, R: Threads + Wait + Log + Clock + Sync> Reading<'a, J, R> 
     fn tell(&mut self, outgoing: &Outgoing) {
         self.tell_change(outgoing);
         if outgoing.has_player {
+            self.has_player = true;
             self.patience.name();
         }
         if outgoing.has_line {
@@ -131,27 +218,37 @@ impl<'a, J: HallName, R: Threads + Wait + Log + Clock + Sync> Reading<'a, J, R> 
         }
     }
 
-    // Feeds bytes to the session, under its lock, requests the sync of an accepted change, and sends the output once
-    // the versions that it can name are synced. Returns whether lines wait then, or `None` if the session does not
-    // continue. The request comes first, because sending may wait for the other side. Once all sessions end, it sends
-    // that instead of an answer: a player who types without a pause leaves the notice thread no moment in which the
-    // lock is free.
+    // Feeds bytes to the session, under its lock. It asks for the sync of an accepted change before it sends the
+    // output, because a send may wait for the other side. Returns whether lines wait, or `None` if the session does not
+    // continue.
+    //
+    // If the session should end, it sends that in place of an answer. It sends the host's announcements first, because
+    // a player who types without a pause leaves the notice thread no moment in which the lock is free.
     fn step(&mut self, bytes: &[u8]) -> Option<bool> {
         let (rt, state, connection) = (self.rt, self.state, self.connection);
+        self.keep_pace();
         let mut guard = connection.client().lock(rt);
-        if let Some(ending) = state.ending(rt) {
-            connection.end_with_all(rt, &mut guard, ending);
+        if let Some(ending) = connection.ending(rt, state) {
+            connection.end(rt, &mut guard, ending);
+            return None;
+        }
+        if !connection.tell_news(rt, &state.control, &mut guard) {
             return None;
         }
         let before = guard.take()?;
+        let begun = now(rt);
         let (after, outgoing) = before.feed(rt, &state.hall, state.limits.workers, bytes);
+        let took = now(rt).saturating_sub(begun);
         *guard = Some(after);
         self.tell(&outgoing);
+        self.spend(took, &outgoing);
         let (has_line, has_more) = (outgoing.has_line, outgoing.has_more);
         let goes_on = connection.send(rt, state, &mut guard, outgoing);
+        drop(guard);
         if has_line {
             self.hear();
         }
+        self.learn_player();
         if goes_on { Some(has_more) } else { None }
     }
 
@@ -219,6 +316,9 @@ impl<'a, J: HallName, R: Threads + Wait + Log + Clock + Sync> Reading<'a, J, R> 
     fn hang_up(&mut self, parting: Parting) {
         let (rt, connection) = (self.rt, self.connection);
         connection.hang_up();
+        if self.pace.is_shared() {
+            self.state.control.crowd.end(rt, self.peer.ip());
+        }
         if connection.part(rt, parting) {
             connection.give_back(rt, self.state, self.at);
             self.tell_end();
@@ -230,8 +330,7 @@ impl<'a, J: HallName, R: Threads + Wait + Log + Clock + Sync> Reading<'a, J, R> 
         }
     }
 
-    // Logs the reason for the end of the session. A browser's request was not a session, and is logged at most once a
-    // second.
+    // Logs the end of the session. A browser's request was no session: the log names one at most once a second.
     fn tell_end(&mut self) {
         let (rt, state) = (self.rt, self.state);
         let parting = self.connection.socket().part(rt, Parting::Left);
@@ -240,11 +339,25 @@ impl<'a, J: HallName, R: Threads + Wait + Log + Clock + Sync> Reading<'a, J, R> 
         } else {
             self.begin();
         }
-        let (number, peer) = (self.number, self.peer);
         if self.is_named {
-            info!(rt; "desk {number}: the session of {peer} ends: {parting}");
-        } else if state.lobby.may_log_request(now(rt)) {
-            warn!(rt; "{peer} sent a browser's request by Telnet");
+            self.log_end(parting);
+        } else {
+            let count = state.control.tally.count_refusal(Refusal::Request);
+            if state.control.tally.may_log(now(rt)) {
+                let address = self.peer.ip();
+                warn!(rt; "refused from={address} why=request count={count}");
+            }
+        }
+    }
+
+    // Logs the end reason of the session, and its player.
+    fn log_end(&self, parting: Parting) {
+        let (rt, number, peer) = (self.rt, self.number, self.peer);
+        match &self.player {
+            Some((player, name)) => {
+                info!(rt; "end session={number} from={peer} why={parting} player=#{player} name=\"{name}\"");
+            }
+            None => info!(rt; "end session={number} from={peer} why={parting}"),
         }
     }
 }

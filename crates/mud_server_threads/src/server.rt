@@ -4,10 +4,11 @@ use crate::connection::{Connection, StateOf};
 use crate::notice::{Sleeper, tell_all};
 use crate::reader::read_all;
 use crossbeam_utils::sync::Parker;
-use log::Log;
+use log::{Log, warn};
+use mud_control::{Member, Refusal};
 use mud_hall::HallName;
-use mud_server_state::{NoPlace, Waker};
-use mud_socket::Socket;
+use mud_server_state::NoPlace;
+use mud_socket::{Socket, now, unix_seconds};
 use std::alloc::Global;
 use std::net::IpAddr;
 use std::sync::{Arc, Wait};
@@ -35,6 +36,14 @@ pub(crate) struct Begun<J: HallName> {
     pub(crate) tells: Arc<Connection<J>>,
     pub(crate) sleeper: Sleeper,
     pub(crate) number: u32,
+}
+
+// Returns why a connection without a place is refused.
+fn refusal_of(no_place: NoPlace) -> Refusal {
+    match no_place {
+        NoPlace::Full => Refusal::Full,
+        NoPlace::TooMany => Refusal::Address,
+    }
 }
 
 impl<'s, E, J, R> Server<'s, E, J, R>
@@ -67,6 +76,30 @@ where
         }
     }
 
+    /// Returns whether a connection of this address may be accepted: the address is not banned, and within its limit.
+    /// Otherwise the connection is closed without a word.
+    pub(crate) fn may_come(&self, address: IpAddr) -> bool {
+        let (rt, control) = (self.rt, &self.state.control);
+        if control.is_banned(rt, address) {
+            self.log_refusal(address, Refusal::Banned);
+            return false;
+        }
+        if !control.crowd.connect(rt, address, now(rt)) {
+            self.log_refusal(address, Refusal::Often);
+            return false;
+        }
+        true
+    }
+
+    /// Counts a refused connection. The log names at most one a second, with the count for its reason.
+    pub(crate) fn log_refusal(&self, address: IpAddr, refusal: Refusal) {
+        let tally = &self.state.control.tally;
+        let (count, why) = (tally.count_refusal(refusal), refusal.word());
+        if tally.may_log(now(self.rt)) {
+            warn!(self.rt; "refused from={address} why={why} count={count}");
+        }
+    }
+
     /// Takes the free place with the lowest number for a session of this address that is about to begin.
     pub(crate) fn admit(&self, address: IpAddr) -> Result<usize, NoPlace> {
         let lobby = &self.state.lobby;
@@ -74,8 +107,9 @@ where
             return Err(NoPlace::Full);
         }
         let place = self.state.take_place(self.rt, address);
-        if place.is_err() {
+        if let Err(no_place) = place {
             lobby.settle_ticket(&self.state.limits, false);
+            self.log_refusal(address, refusal_of(no_place));
         }
         place
     }
@@ -85,15 +119,17 @@ where
     pub(crate) fn open(&self, at: usize, socket: Arc<Socket>) -> Option<Begun<J>> {
         let parker = Parker::new(self.alloc).ok()?;
         let unparker = parker.unparker().clone().ok()?;
-        let waker = Waker {
-            unparker,
-            socket: Arc::try_clone(&socket).ok()?,
-        };
-        let kept = Arc::new(self.alloc, Connection::new(socket)).ok()?;
+        let theirs = Arc::try_clone(&socket).ok()?;
+        let member = Member::new(unparker, theirs, now(self.rt), unix_seconds(self.rt));
+        let control = &self.state.control;
+        let connection = Connection::new(socket, control.news.count());
+        let kept = Arc::new(self.alloc, connection).ok()?;
         let reads = Arc::try_clone(&kept).ok()?;
         let tells = Arc::try_clone(&kept).ok()?;
-        self.state.set_waker(self.rt, at, waker);
+        control.roster.enter(self.rt, at, member);
         let number = kept.start(self.rt, self.alloc, self.state, at)?;
+        control.roster.number(self.rt, at, number);
+        self.dismiss_banned(&kept);
         Some(Begun {
             kept,
             reads,
@@ -101,6 +137,14 @@ where
             sleeper: Sleeper { parker },
             number,
         })
+    }
+
+    // Ends a session whose address was banned while it began.
+    fn dismiss_banned(&self, connection: &Connection<J>) {
+        let socket = connection.socket();
+        if self.state.control.is_banned(self.rt, socket.peer().ip()) {
+            socket.dismiss();
+        }
     }
 
     // Runs the notice thread of a session.

@@ -48,10 +48,10 @@ where
         has_begun
     }
 
-    /// Serves a Telnet connection, or refuses it if there is no place. Its reader thread says that the session has
-    /// begun, once the input shows that it is not a browser's request.
+    /// Serves a Telnet connection, or refuses it if there is no place for it or its address is banned. Once its input
+    /// is known not to be a browser's request, its reader thread logs that its session has begun.
     pub fn welcome(&self, stream: TcpStream, peer: SocketAddr) {
-        if !set_up(&stream) {
+        if !self.may_come(peer.ip()) || !set_up(&stream) {
             return;
         }
         match self.admit(peer.ip()) {

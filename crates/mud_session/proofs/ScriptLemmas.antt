@@ -14,7 +14,7 @@ use Rattle.mud_hall.specs.Desk.{DeskState}
 use Rattle.mud_session.specs.State.{SessionState, DoorState}
 use Rattle.mud_io.specs.Streams.{Reader, Writer, new_reader}
 use Rattle.mud_session.specs.Session.{TakingIn, Turn, Plays, Play, is_over, text_of}
-use Rattle.mud_session.specs.inner.Service.{Serves, ServesInPart}
+use Rattle.mud_session.specs.inner.Service.{Serves, ServesInPart, IsWholeAt}
 use Rattle.mud_session.specs.Script.{Script, IsWhole, IsFront, IsOpen}
 use Rattle.mud_session.proofs.Playing.{unit_in, retold, joined, over-by, text_of-append}
 
@@ -160,12 +160,15 @@ pub whole_at_quit : {takes_in : TakingIn} {capacity : ℕ} {start : DeskState}
     → Consumes read.left next.left more
     → next.at_end ≡ false → new.has_ended ≡ true
     → Serves takes_in so_far.bytes more state new door new_door now written.holds
-    → IsWhole takes_in capacity start reader next writer written
+    → IsWholeAt takes_in capacity start reader next writer written new_door.desk
 whole_at_quit {more = more} so_far consumed no_end over serves = record {
-  script = played (so_far.bytes ++ more) (Consumes-trans _ _ _ so_far.bytes more so_far.consumed consumed) no_end
-      (more_play so_far more serves.feeds.units serves.feeds.play);
-  writes = more_written _ _ _ so_far.turns serves.feeds.play.turns so_far.written serves.written;
-  done = inr (over-by so_far.turns serves.feeds.play.turns _ so_far.goes_on serves.feeds.ended ∙ over);
+  desk_is = refl;
+  whole = record {
+    script = played (so_far.bytes ++ more) (Consumes-trans _ _ _ so_far.bytes more so_far.consumed consumed) no_end
+        (more_play so_far more serves.feeds.units serves.feeds.play);
+    writes = more_written _ _ _ so_far.turns serves.feeds.play.turns so_far.written serves.written;
+    done = inr (over-by so_far.turns serves.feeds.play.turns _ so_far.goes_on serves.feeds.ended ∙ over);
+  };
 }
 
 -- the end of the input, and the last line
@@ -176,15 +179,18 @@ pub whole_at_end : {takes_in : TakingIn} {capacity : ℕ} {start : DeskState}
     → Consumes read.left next.left []
     → next.at_end ≡ true → IsAtEnd next.left
     → Serves takes_in so_far.bytes (LF ∷ []) state new door new_door now written.holds
-    → IsWhole takes_in capacity start reader next writer written
+    → IsWholeAt takes_in capacity start reader next writer written new_door.desk
 whole_at_end {new = new} so_far consumed ended end serves = record {
-  script = played_out so_far.bytes (rw append-nil at (Consumes-trans _ _ _ so_far.bytes [] so_far.consumed consumed))
-      ended end (more_play so_far (LF ∷ []) serves.feeds.units serves.feeds.play);
-  writes = more_written _ _ _ so_far.turns serves.feeds.play.turns so_far.written serves.written;
-  done = elim (cases_Bool new.has_ended) [
-    | inl e ↦ inr (over-by so_far.turns serves.feeds.play.turns _ so_far.goes_on serves.feeds.ended ∙ e)
-    | inr e ↦ inl (ended, serves.feeds.all e)
-  ];
+  desk_is = refl;
+  whole = record {
+    script = played_out so_far.bytes (rw append-nil at (Consumes-trans _ _ _ so_far.bytes [] so_far.consumed consumed))
+        ended end (more_play so_far (LF ∷ []) serves.feeds.units serves.feeds.play);
+    writes = more_written _ _ _ so_far.turns serves.feeds.play.turns so_far.written serves.written;
+    done = elim (cases_Bool new.has_ended) [
+      | inl e ↦ inr (over-by so_far.turns serves.feeds.play.turns _ so_far.goes_on serves.feeds.ended ∙ e)
+      | inr e ↦ inl (ended, serves.feeds.all e)
+    ];
+  };
 }
 
 -- ---- prefixes

@@ -4,7 +4,7 @@
 //!   (`mud_hall::Solo`), or a [`Seat`], a desk of a hall.
 //! - A [`Session`] consumes bytes by `feed` and answers each complete line through its door. `nudge` makes it look for
 //!   the changes of others, and `take_out` returns its output.
-//! - A [`script`] is a single-user session over a reader and a writer.
+//! - A [`script`] is a single-user session over a reader and a writer, and [`script_on`] one that continues a history.
 //!
 //! Memory: a session owns the incomplete line, at most 1,000 characters, and its output; the desk belongs to the
 //! caller. It starts no thread. A call blocks only if its door does: at a [`Seat`] on the lock of the hall, and on
@@ -36,6 +36,6 @@ mod wiring;
 
 pub use door::Door;
 pub use fault::SessionFault;
-pub use scripting::{ScriptFault, script};
+pub use scripting::{ContinueFault, ScriptFault, script, script_on};
 pub use seat::Seat;
 pub use session::Session;

@@ -1,17 +1,18 @@
 //! Runs a session over a reader and a writer.
 
-ghost use Rattle.std.specs.Prelude.{◌≡◌, ℕ, ◌≤◌, ◌⊎◌, [], true, List, OnOk, OnErr, IfErr};
+ghost use Rattle.std.specs.Prelude.{◌≡◌, ℕ, ◌≤◌, ◌⊎◌, [], true, length, List, OnOk, OnErr, IfOk, IfErr};
 ghost use Rattle.mud_nvt.specs.History.{StandsAfter};
 ghost use Rattle.mud_io.specs.Streams.{new_writer, new_reader};
 ghost use Rattle.mud_world.specs.declared.limits.TheConstants.{MOST_ENTRIES};
 ghost use Rattle.mud_hall.specs.Steps.{lone_desk};
 ghost use Rattle.mud_session.specs.Session.{TakesNone};
-ghost use Rattle.mud_session.specs.Script.{IsWhole, IsFront, IsOpen};
-ghost use Rattle.mud_session.specs.inner.Service.{Serves, ServesInPart};
+ghost use Rattle.mud_session.specs.Script.{IsWhole, IsFront, IsOpen, IsContinued, HasNoHistory};
+ghost use Rattle.mud_session.specs.inner.Service.{Serves, ServesInPart, IsWholeAt};
 
 use crate::door::Door;
 use crate::session::Session;
-use mud_hall::Solo;
+use mud_chron::Entry;
+use mud_hall::{ResumeFault, Solo};
 use mud_io::{MOST_READS, Sink, Source};
 use std::alloc::Global;
 use std::io::{Read, Write};
@@ -30,6 +31,17 @@ pub enum ScriptFault {
     Write,
     #[error("too many reads")]
     TooManyReads,
+}
+
+/// The reason why a script that continues entries has no history.
+#[derive(Clone, Copy, Debug, PartialEq, Eq, Error)]
+pub enum ContinueFault {
+    /// The script did not begin. It read nothing and wrote nothing.
+    #[error("{0}")]
+    NotResumed(ResumeFault),
+    /// The script stopped before its end.
+    #[error("{0}")]
+    Stopped(ScriptFault),
 }
 
 const BUFFER_LEN: usize = 4096;
@@ -68,6 +80,42 @@ pub fn script<X: Threads + Wait + Sync, R: Read, W: Write>(
     converse(rt, &mut session, &mut solo, source, sink)
 }
 
+/// Runs a script like [`script`], but after these entries, as the player that `word` means (`Solo::resume`). Returns
+/// all entries of the history at its end, the given ones first. After a fault there is no history.
+pub fn script_on<X: Threads + Wait + Sync, R: Read, W: Write>(
+    rt: &X,
+    alloc: Global,
+    source: &mut Source<R>,
+    sink: &mut Sink<W>,
+    capacity: u32,
+    workers: u32,
+    entries: Vec<Entry>,
+    word: &str,
+) -> Result<Vec<Entry>, ContinueFault>
+    requires fresh { source.old ≡ new_reader source.old.left }
+    requires unwritten { sink.old ≡ new_writer sink.old.holds }
+    requires capacity { capacity ≤ MOST_ENTRIES }
+    ensures ok { IfOk result (λ history. IsContinued capacity entries.items word.now source.old source.new
+        sink.old sink.new history.items) }
+    ensures few { IfOk result (λ history. length history.items ≤ MOST_ENTRIES) }
+    ensures fault { IfErr result (HasNoHistory capacity entries.items word.now source.old source.new
+        sink.old sink.new) }
+    ensures reads { source.new.reads ≤ MOST_READS }
+{
+    let mut solo = match Solo::resume(alloc, capacity, entries, word) {
+        Ok(solo) => solo,
+        Err(fault) => return Err(ContinueFault::NotResumed(fault)),
+    };
+    solo.set_workers(workers);
+    let Ok(mut session) = Session::new(alloc, false) else {
+        return Err(ContinueFault::Stopped(ScriptFault::OutOfMemory));
+    };
+    match converse(rt, &mut session, &mut solo, source, sink) {
+        Ok(()) => Ok(solo.into_history()),
+        Err(fault) => Err(ContinueFault::Stopped(fault)),
+    }
+}
+
 // Answers the lines of a reader through a door.
 fn converse<X: Threads + Wait + Sync, D: Door, R: Read, W: Write>(
     rt: &X,
@@ -79,8 +127,8 @@ fn converse<X: Threads + Wait + Sync, D: Door, R: Read, W: Write>(
     requires terminal { StandsAfter session.old.terminal [] }
     requires sent { session.old.out ≡ [] }
     requires fresh { source.old ≡ new_reader source.old.left }
-    ensures ok { OnOk result (IsWhole D.takes_in (D.state door.old).capacity (D.state door.old).desk
-        source.old source.new sink.old sink.new) }
+    ensures ok { OnOk result (IsWholeAt D.takes_in (D.state door.old).capacity (D.state door.old).desk
+        source.old source.new sink.old sink.new (D.state door.new).desk) }
     ensures fault { OnErr result (IsFront D.takes_in (D.state door.old).capacity (D.state door.old).desk
         source.old source.new sink.old sink.new) }
     ensures reads { source.new.reads ≤ MOST_READS }

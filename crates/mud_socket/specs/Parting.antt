@@ -7,15 +7,17 @@ use Rattle.mud_socket.specs.declared.parting.Ending.TheVariants as Ended
 use Rattle.mud_socket.specs.declared.parting.Parting.{Parting}
 use Rattle.mud_socket.specs.declared.parting.Parting.TheVariants as By
 
--- the last line of each session when all sessions end
+-- the last line for a session that is ended from outside
 abbrev pub ending_line : Ending → List ℕ
 ending_line Ended.Stop = codes "(server stops)\r\n"
 ending_line Ended.JournalFault = codes "(journal fault)\r\n"
+ending_line Ended.ByHost = codes "(ended by the host)\r\n"
 
 -- the last line of a session
 abbrev pub line_of : Parting → Option (List ℕ)
 line_of By.ServerStops = Some (ending_line Ended.Stop)
 line_of By.JournalFault = Some (ending_line Ended.JournalFault)
+line_of By.Ended = Some (ending_line Ended.ByHost)
 line_of other = None
 
 -- the close of a web socket: none after a text that was not taken whole, and none if a broken frame was already
@@ -24,6 +26,7 @@ abbrev pub close_of : Parting → Option Close
 close_of By.Left = Some Close.Normal
 close_of By.Idle = Some Close.Normal
 close_of By.Unnamed = Some Close.Normal
+close_of By.Ended = Some Close.Normal
 close_of By.WriteTimeout = None
 close_of By.BrokenFrame = None
 close_of By.Request = None

@@ -18,5 +18,5 @@ mod time;
 pub use head::{HEAD_SECONDS, HeadReader, Heard, hear, refuse};
 pub use parting::{Ending, Parting};
 pub use patience::Patience;
-pub use socket::{Entrance, Socket, set_up};
-pub use time::{now, rest};
+pub use socket::{Entrance, Socket, canonical, set_up};
+pub use time::{now, rest, unix_seconds};

@@ -7,13 +7,15 @@ use mud_web::Ending as Close;
 use thiserror::Error;
 use websocket::error;
 
-/// The reason why all sessions end at once.
+/// The reason why a session is ended from outside: all sessions end, or the host ends this one.
 #[derive(Clone, Copy, Debug, PartialEq, Eq)]
 pub enum Ending {
     /// The server is shutting down.
     Stop,
     /// The journal has failed.
     JournalFault,
+    /// The host ends this session.
+    ByHost,
 }
 
 impl Ending {
@@ -24,6 +26,7 @@ impl Ending {
         match self {
             Ending::Stop => "(server stops)\r\n",
             Ending::JournalFault => "(journal fault)\r\n",
+            Ending::ByHost => "(ended by the host)\r\n",
         }
     }
 }
@@ -41,31 +44,35 @@ pub enum Parting {
     #[error("unnamed")]
     Unnamed,
     /// The other side was too slow to take the output.
-    #[error("write time-out")]
+    #[error("write-timeout")]
     WriteTimeout,
     /// A frame of the web socket broke a rule of the protocol, or a limit.
-    #[error("broken frame")]
+    #[error("broken-frame")]
     BrokenFrame,
     /// The first input of a Telnet session was a browser's request.
     #[error("request")]
     Request,
     /// An allocation failed for the session itself.
-    #[error("out of memory")]
+    #[error("out-of-memory")]
     OutOfMemory,
     /// The server is shutting down.
-    #[error("server stops")]
+    #[error("server-stops")]
     ServerStops,
     /// The journal has failed.
-    #[error("journal fault")]
+    #[error("journal-fault")]
     JournalFault,
+    /// The host ended the session.
+    #[error("ended")]
+    Ended,
 }
 
 impl Parting {
-    /// Returns the reason of a session that ends with all others.
-    pub fn of_all(ending: Ending) -> Parting {
+    /// Returns the reason of a session that is ended from outside.
+    pub fn of_ending(ending: Ending) -> Parting {
         match ending {
             Ending::Stop => Parting::ServerStops,
             Ending::JournalFault => Parting::JournalFault,
+            Ending::ByHost => Parting::Ended,
         }
     }
 
@@ -80,13 +87,14 @@ impl Parting {
         }
     }
 
-    /// Returns the last line for the other side, if all sessions end.
+    /// Returns the last line for the other side, if the session is ended from outside.
     pub fn line(self) -> Option<&'static str>
         ensures { option_map (λ line. line.now) result ≡ line_of self }
     {
         match self {
             Parting::ServerStops => Some(Ending::Stop.line()),
             Parting::JournalFault => Some(Ending::JournalFault.line()),
+            Parting::Ended => Some(Ending::ByHost.line()),
             _ => None,
         }
     }
@@ -98,7 +106,9 @@ impl Parting {
         ensures { result ≡ close_of self }
     {
         match self {
-            Parting::Left | Parting::Idle | Parting::Unnamed => Some(Close::Normal),
+            Parting::Left | Parting::Idle | Parting::Unnamed | Parting::Ended => Some(
+                Close::Normal,
+            ),
             Parting::WriteTimeout | Parting::BrokenFrame | Parting::Request => None,
             Parting::OutOfMemory => Some(Close::InternalError),
             Parting::ServerStops | Parting::JournalFault => Some(Close::GoingAway),

@@ -1,6 +1,7 @@
 //! Sockets of connections.
 
-ghost use Rattle.std.specs.Prelude.{◌≤◌, length, IfOk};
+ghost use Rattle.std.specs.Prelude.{◌≡◌, ◌≤◌, length, IfOk};
+ghost use Rattle.mud_socket.specs.Entrance.{entrance_word};
 
 use crate::options::probe;
 use crate::parting::{Ending, Parting};
@@ -8,6 +9,7 @@ use crate::patience::Patience;
 use crate::time::now;
 use std::io::{ErrorKind, Read, Write};
 use std::net::{IpAddr, Ipv4Addr, Shutdown, SocketAddr, TcpStream};
+use std::sync::atomic::{AtomicBool, AtomicU64, Ordering};
 use std::sync::{Mutex, Wait};
 use std::time::{Clock, Duration};
 
@@ -39,12 +41,34 @@ pub enum Entrance {
     Web,
 }
 
+impl Entrance {
+    /// Returns its word in the log, and on the host's console.
+    pub fn word(self) -> &'static str
+        ensures { result.now ≡ entrance_word self }
+    {
+        match self {
+            Entrance::Telnet => "telnet",
+            Entrance::Web => "web",
+        }
+    }
+}
+
 /// The socket of a connection, its entrance, and the first reason why its session ended.
 #[derive(Drop)]
 pub struct Socket {
     stream: TcpStream,
     entrance: Entrance,
     parting: Mutex<Option<Parting>>,
+    // The time of the last line, in microseconds; 0 if there was none.
+    heard: AtomicU64,
+    // True once the host ends the session.
+    is_dismissed: AtomicBool,
+}
+
+/// Returns an address and port, with an IPv4-mapped address as IPv4 (RFC 4291, section 2.5.5.2). So a connection has
+/// the same address by a listener for both families as by one for IPv4.
+pub fn canonical(peer: SocketAddr) -> SocketAddr {
+    SocketAddr::new(peer.ip().to_canonical(), peer.port())
 }
 
 // Returns the time that the other side has for a text after it took `taken` bytes, if it has `seconds` seconds for the
@@ -72,6 +96,8 @@ impl Socket {
             stream,
             entrance,
             parting: Mutex::new(None),
+            heard: AtomicU64::new(0),
+            is_dismissed: AtomicBool::new(false),
         }
     }
 
@@ -80,10 +106,36 @@ impl Socket {
         self.entrance
     }
 
-    /// Returns the address of the other side, or 0.0.0.0:0 if it is already gone.
+    /// Returns the address of the other side, with an IPv4-mapped address as IPv4. It is 0.0.0.0:0 if the other side is
+    /// already gone.
     pub fn peer(&self) -> SocketAddr {
         let nobody = SocketAddr::new(IpAddr::V4(Ipv4Addr::UNSPECIFIED), 0);
-        self.stream.peer_addr().unwrap_or(nobody)
+        canonical(self.stream.peer_addr().unwrap_or(nobody))
+    }
+
+    /// Records that a line came now.
+    pub fn hear(&self, now: Duration) {
+        let micros = u64::try_from(now.as_micros()).unwrap_or(u64::MAX);
+        self.heard.store(micros, Ordering::Relaxed);
+    }
+
+    /// Returns the time of the last line, or zero if there was none.
+    pub fn last_heard(&self) -> Duration {
+        Duration::from_micros(self.heard.load(Ordering::Relaxed))
+    }
+
+    /// Records that the host ends the session.
+    pub fn dismiss(&self) {
+        self.is_dismissed.store(true, Ordering::SeqCst);
+    }
+
+    /// Returns the reason why the host ends the session, if it does.
+    pub fn dismissal(&self) -> Option<Ending> {
+        if self.is_dismissed.load(Ordering::SeqCst) {
+            Some(Ending::ByHost)
+        } else {
+            None
+        }
     }
 
     /// Records a reason for the end of the session. Returns the first recorded reason.
@@ -225,14 +277,14 @@ impl Socket {
         }
     }
 
-    /// Sends once why all sessions end, if the other side takes it soon. A second caller waits until it was sent. A
-    /// session that has ended for another reason gets nothing.
+    /// Sends once why the session is ended from outside, if the other side takes it soon. A second caller waits until
+    /// it was sent. A session that has ended for another reason gets nothing.
     pub fn tell_ending<R: Wait>(&self, rt: &R, ending: Ending) {
         let mut first = self.parting.lock(rt);
         if first.is_some() {
             return;
         }
-        *first = Some(Parting::of_all(ending));
+        *first = Some(Parting::of_ending(ending));
         self.say_last(ending.line().as_bytes());
     }
 

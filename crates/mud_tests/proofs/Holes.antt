@@ -1,8 +1,8 @@
 -- The bytes left of written ones, byte by byte.
 use Rattle.std.proofs.Common.{◌≡◌, ◌⊎◌, inl, inr, ℕ, ◌<◌, List, [], ◌∷◌, ◌++◌, length, get_or, refl, arith}
-use Rattle.std.proofs.Common.{Bool, true, false, Option, Some, None, sym, subst}
+use Rattle.std.proofs.Common.{Bool, true, false, Some, None, sym, subst}
 use Rattle.std.specs.Prelude.{if◌then◌else◌}
-use Rattle.mud_journal.specs.Disk.{AreThere, IsLeft}
+use Rattle.mud_journal.specs.Crash.{AreThere, IsLeft}
 
 -- one more byte
 pub one_more : (written bytes : List ℕ) (b : ℕ) → AreThere written bytes
@@ -25,7 +25,7 @@ behind (a ∷ synced) written bytes there = (inl refl, behind synced written byt
 
 -- the contents of a disk after a crash
 pub left_of : (is_made : Bool) (synced unsynced more bytes : List ℕ) → AreThere unsynced more → bytes ≡ synced ++ more
-    → IsLeft (if is_made then Some (record { appended = synced ++ unsynced; synced = synced }) else None) bytes
+    → IsLeft AreThere (if is_made then Some (record { appended = synced ++ unsynced; synced = synced }) else None) bytes
 left_of false synced unsynced more bytes there is = tt
 left_of true synced unsynced more bytes there is =
     ((more, sym is), subst (AreThere (synced ++ unsynced)) (sym is) (behind synced unsynced more there))

@@ -1,1 +1,2 @@
 mod Holes
+mod Moments

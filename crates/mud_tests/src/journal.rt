@@ -10,8 +10,8 @@ use log::Log;
 use mud_chron::limits::MOST_DESKS;
 use mud_chron::{ChronFault, Entry, read_front};
 use mud_io::Sink;
-use mud_journal::{Disk, DiskFault, Found, Journal, JournalFault, OpenFault, recover};
-use mud_server::{Doors, Limits, ServerFault, listen_journaled};
+use mud_journal::{Appends, Disk, DiskFault, Found, Journal, JournalFault, OpenFault, recover};
+use mud_server::{Doors, Hosting, Limits, ServerFault, listen_journaled};
 use std::alloc::{AllocError, Global};
 use std::io::Write;
 use std::net::{Ipv4Addr, Net, SocketAddr, TcpListener, TcpStream};
@@ -62,25 +62,19 @@ struct MemoryDisk<'s> {
     store: &'s mut Store,
 }
 
-impl Disk for MemoryDisk<'_> {
+impl Appends for MemoryDisk<'_> {
     ghost use Rattle.std.specs.Prelude.{None};
+    ghost use Rattle.mud_journal.specs.Crash.{AreAny};
 
     ghost kept = { λ _. None };
 
-    ghost may_leave = { λ _ _. Unit {0} };
+    ghost tears = { AreAny };
+
+    ghost moment = { λ _. 0 };
+
+    ghost left_since = { λ _ _ _. Unit {0} };
 
     ghost left = { λ _ _ _. tt };
-
-    fn replace(&mut self, bytes: &[u8]) -> Result<(), DiskFault> {
-        self.store.call()?;
-        self.store.bytes.clear();
-        self.store
-            .bytes
-            .extend_from_slice(bytes)
-            .map_err(|_| DiskFault::Failed)?;
-        self.store.synced = self.store.bytes.len();
-        Ok(())
-    }
 
     fn append(&mut self, bytes: &[u8]) -> Result<(), DiskFault> {
         self.store
@@ -92,6 +86,19 @@ impl Disk for MemoryDisk<'_> {
 
     fn sync(&mut self) -> Result<(), DiskFault> {
         self.store.call()?;
+        self.store.synced = self.store.bytes.len();
+        Ok(())
+    }
+}
+
+impl Disk for MemoryDisk<'_> {
+    fn replace(&mut self, bytes: &[u8]) -> Result<(), DiskFault> {
+        self.store.call()?;
+        self.store.bytes.clear();
+        self.store
+            .bytes
+            .extend_from_slice(bytes)
+            .map_err(|_| DiskFault::Failed)?;
         self.store.synced = self.store.bytes.len();
         Ok(())
     }
@@ -263,7 +270,8 @@ fn serve<
         return Err(ServerFault::OutOfMemory);
     };
     let doors = Doors { telnet, web: None };
-    match listen_journaled(rt, doors, limits(), had, found, None, out) {
+    let hosting = Hosting::alone(alloc, MOST_DESKS)?;
+    match listen_journaled(rt, doors, limits(), had, found, hosting, out) {
         Ok(_) => Ok(()),
         Err(fault) => Err(fault),
     }

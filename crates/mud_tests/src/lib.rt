@@ -9,6 +9,7 @@
 #[cfg(test)]
 mod client;
 #[cfg(test)]
+mod crashes;
 mod disk;
 #[cfg(test)]
 mod hall;
@@ -18,6 +19,8 @@ mod histories;
 mod journal;
 #[cfg(test)]
 mod lines;
+#[cfg(test)]
+mod playing;
 #[cfg(test)]
 mod rows;
 #[cfg(test)]

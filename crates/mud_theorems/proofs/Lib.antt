@@ -4,6 +4,10 @@ mod Listing
 mod OneRun
 mod Lasting
 mod Owning
+mod Texts
+mod Browsing
+mod Small
 pub mod Feeding
 pub mod Jobs
 mod Crosses
+mod Sample

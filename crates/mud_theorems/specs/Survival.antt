@@ -4,7 +4,7 @@ use mathlib.Core.List.{IsPrefix}
 use Rattle.mud_words.specs.Parse.{parse_of}
 use Rattle.mud_world.specs.declared.limits.TheConstants.{MOST_ENTRIES}
 use Rattle.mud_chron.specs.Entry.{Entry}
-use Rattle.mud_journal.specs.Laws.{IsLeftOf}
+use Rattle.mud_journal.specs.Crash.{IsLeftOf}
 use Rattle.mud_hall.specs.Replies.{verdict_on}
 use Rattle.mud_hall.specs.Answers.{Answered, Shows}
 use Rattle.mud_hall.specs.Right.{IsAcceptedWith}

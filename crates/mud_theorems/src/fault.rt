@@ -1,13 +1,13 @@
-//! Why players did not play.
+//! Faults of players who type at once.
 
 use mud_hall::{CloseFault, Fault};
 use std::alloc::{AllocError, AllocFailed};
 use thiserror::Error;
 
-/// Why players did not play, or their hall was not settled.
+/// A reason why players did not play, or their hall was not settled.
 #[derive(Clone, Copy, PartialEq, Eq, Debug, Drop, Error)]
 pub enum PlayFault {
-    /// Memory ran out for a desk, a session or a list.
+    /// Memory ran out for a desk, a session, a list or the settlement.
     #[error("out of memory")]
     OutOfMemory,
     /// The hall has no desk left for one of them.
@@ -23,6 +23,15 @@ impl From<Fault> for PlayFault {
         match fault {
             Fault::DesksFull => PlayFault::DesksFull,
             _ => PlayFault::OutOfMemory,
+        }
+    }
+}
+
+impl From<CloseFault> for PlayFault {
+    fn from(fault: CloseFault) -> PlayFault {
+        match fault {
+            CloseFault::OutOfMemory => PlayFault::OutOfMemory,
+            fault => PlayFault::Close(fault),
         }
     }
 }

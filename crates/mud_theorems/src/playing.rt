@@ -36,6 +36,6 @@ pub fn play_together<J: HallName + Send + Sync, R: Threads + Wait + Sync>(
     one_run();
     match hall.close(rt, desks) {
         Ok(settled) => Ok((settled, transcripts)),
-        Err((_, _, fault)) => Err(PlayFault::Close(fault)),
+        Err((_, _, fault)) => Err(fault.into()),
     }
 }

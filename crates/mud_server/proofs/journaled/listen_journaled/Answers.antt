@@ -47,8 +47,8 @@ serve-requires-clause-holds g c κs within =
     let same : c.in_ok-more.more.items ≡ drop n loaded = search (rules, places) in
     let held =
     c.in_ok-journal.ensures.holds _ c.requires.found (length-take-le n loaded c.requires.within) in
-    all_loaded _ n loaded c.deref-2.result.now c.in_ok-hall.hall.loaded held
-    (subst (λ l. l ≡ drop n loaded) (sym c.deref-2.ensures.value) same) c.in_ok-hall.ensures.loaded
+    all_loaded _ n loaded c.deref-4.result.now c.in_ok-hall.hall.loaded held
+    (subst (λ l. l ≡ drop n loaded) (sym c.deref-4.ensures.value) same) c.in_ok-hall.ensures.loaded
 
 pub returns-in_err-history-clause-front : goal.returns-in_err-history-clause-front
 returns-in_err-history-clause-front g c =

@@ -21,7 +21,7 @@ returns-clause-ok g c =
     let sink = c.converse.new.sink in
     on_ok_weaker c.converse.result
     (λ whole. subst (λ (a : Alone). IsWhole TakesNone a.capacity a.state c.args.source.now source c.args.sink.now sink)
-    (c.set_workers.ensures ∙ c.in-Ok.ensures) whole)
+    (c.set_workers.ensures ∙ c.in-Ok.ensures) whole.whole)
     c.converse.ensures.ok
 
 pub returns-clause-fault : goal.returns-clause-fault

@@ -1,6 +1,6 @@
 use Rattle.std.proofs.Common.{◌≡◌, ◌⊎◌, ◌<◌, ℕ, List, [], ◌∷◌, ◌++◌, length, get_or, sym, subst, ap, ◌∙◌, ◌+◌}
 use Rattle.std.proofs.lemmas.List.{length-append}
-use Rattle.mud_journal.specs.Disk.{AreThere}
+use Rattle.mud_journal.specs.Crash.{AreThere}
 use Rattle.mud_tests.proofs.Holes.{one_more}
 use Rattle.mud_tests.proofs.disk.holes.Goals as goal
 

@@ -1,5 +1,5 @@
 use Rattle.std.proofs.Common.{◌≡◌, length}
-use Rattle.mud_journal.specs.Disk.{AreThere}
+use Rattle.mud_journal.specs.Crash.{AreThere}
 use Rattle.mud_tests.proofs.disk.holes.Given as goal
 
 -- the bytes left at the first places

@@ -1,153 +1,140 @@
-use Rattle.std.proofs.Common.{◌≡◌, false, [], length, Option, refl, sym, ap, subst, ◌∙◌, inr}
+use Rattle.std.proofs.Common.{◌≡◌, ℕ, false, true, List, [], length, Option, refl, sym, ap, subst, ◌∙◌, inr}
 use Rattle.std.proofs.Math.Logic.{∥∥₁_map, ∥∥₁_elim}
 use Rattle.std.proofs.Math.Bool.{Bool-set}
+use Rattle.mud_client.specs.declared.client.Client.TheInside.{Inside}
+use Rattle.mud_client.specs.declared.framing.Framing.{Framing}
 use Rattle.mud_client.specs.declared.outgoing.End.{End}
 use Rattle.mud_client.specs.Client.{ClientState, state_of, IsSound}
-use Rattle.mud_client.specs.Steps.{MatchEnd, Steps, CutsOff, Comes}
-use Rattle.mud_client.specs.inner.Talking.{within}
+use Rattle.mud_client.specs.Steps.{MatchEnd, Steps, CutsOff}
 use Rattle.mud_client.proofs.Feeding.{none_waits, some_wait}
 use Rattle.mud_client.proofs.Leaving.{replies_read}
-use Rattle.mud_client.proofs.Stepping.{seated, sound_here, comes_sound, broken_replies, cut_so, match_end}
-use Rattle.mud_client.proofs.Stepping.{frames_step, line_step, step_stands, line_sound, line_said}
+use Rattle.mud_client.proofs.Stepping.{comes_sound, broken_replies, cut_so, match_end}
+use Rattle.mud_client.proofs.Stepping.{frames_step, line_step, step_stands}
 use Rattle.mud_client.proofs.client.Client.feed.Given.{Over}
 use Rattle.mud_client.proofs.client.Client.feed.Goals as goal
-use Rattle.mud_client.proofs.client.Client.feed.Goals.{After-read, After-end, After-say}
+use Rattle.mud_client.proofs.client.Client.feed.Goals.{After-give, After-say}
 
--- the client at its seat
-here : (g : Over) (c : After-read g) → within c.self.inside.talk c.new-place.result.seat false ≡ c.args.self
-here g c =
-    let inside = c.self.inside in
-    seated (length g.J.HallName.cells) inside.talk inside.desk.state inside.has_ended _ c.new-place.result.seat
-    (c.new-place.ensures.seat ∙ c.new.ensures) c.if-has_ended.false ∙ c.self.view_is
+-- the client before the input, and after it
 
-sound : (g : Over) (c : After-read g) → ∥ IsSound (within c.self.inside.talk c.new-place.result.seat false) ∥₁
-sound g c =
-    let inside = c.self.inside in
-    sound_here inside.has_ended
-    (state_of (length g.J.HallName.cells) inside.talk inside.desk.state inside.has_ended)
-    (within inside.talk c.new-place.result.seat false) c.if-has_ended.false (sym (here g c ∙ sym c.self.view_is))
-    c.self.invariant
+abbrev before : (g : Over) → Inside g.row.J.Denot → ClientState
+before g inside =
+    state_of (length g.J.HallName.cells) inside.framing inside.waiting.items inside.session inside.desk.state
+    inside.has_ended
+
+abbrev mid : (g : Over) → Inside g.row.J.Denot → Framing → List ℕ → ClientState
+mid g inside framing typed =
+    state_of (length g.J.HallName.cells) framing typed inside.session inside.desk.state inside.has_ended
+
+-- frames ended it
 
 pub cut_off-requires-clause-open_still : goal.cut_off-requires-clause-open_still
 cut_off-requires-clause-open_still g c κs bounds =
-    ∥∥₁_elim (sound g (goal.at.cut_off-requires-clause-open_still g c).After-read) (Bool-set _ false)
-    (λ s. sym s.ended)
+    ∥∥₁_elim c.client.invariant (Bool-set c.client.inside.session.has_ended false)
+    (λ i. sym (i c.if-client.false).ended ∙ c.if-client.false)
 
 pub cut_off-requires-clause-replies : goal.cut_off-requires-clause-replies
 cut_off-requires-clause-replies g c κs bounds =
-    broken_replies c.in-Err.fault c.self.inside.talk c.new-place.result.seat c.args.bytes.now c.read.new.typed.items
-    c.read.new.replies.items c.in-Err.ensures.over
-    (sound g (goal.at.cut_off-requires-clause-replies g c).After-read)
+    broken_replies c.in-Err.fault (before g c.client.inside) c.args.bytes.now c.read-read.new.typed.items
+    c.read-read.new.replies.items c.in-Err.ensures.over (∥∥₁_map c.client.invariant (λ i. i c.if-client.false))
 
 pub returns-in-Err-clause-step : goal.returns-in-Err-clause-step
 returns-in-Err-clause-step g c =
-    let talk = c.self.inside.talk in
-    let seat = c.new-place.result.seat in
-    let mid = within (record talk { framing = c.read.new.self; waiting = c.read.new.typed }) seat false in
-    let end = c.cut_off.result.1.end in
+    let inside = c.client.inside in
+    let cut : ClientState =
+    record (mid g inside c.read-read.new.self c.read-read.new.typed.items) { has_ended = true } in
     let new = c.cut_off.result.0 in
     let out = c.cut_off.result.1 in
     let bytes = c.args.bytes.now in
-    subst (λ (x : ClientState). MatchEnd end (Steps bytes x new out) (λ e. CutsOff bytes e x new out)
-    (out.text.text.items ≡ [])) (here g (goal.at.returns-in-Err-clause-step g c).After-read)
-    (match_end end (λ done. absurd done)
-    (λ e is cut. cut_so bytes c.read.new.replies.items c.in-Err.fault e (within talk seat false) mid new out
-    c.in-Err.ensures.over cut.0 cut.1 refl refl cut.2)
-    (λ none. none) c.cut_off.ensures.over)
+    subst (λ (x : ClientState). MatchEnd out.end (Steps bytes x new out) (λ e. CutsOff bytes e x new out)
+    (out.text.text.items ≡ [])) c.client.view_is
+    (match_end out.end (λ done. absurd done)
+    (λ e is over. cut_so bytes c.read-read.new.replies.items c.in-Err.fault e (before g inside) cut new out refl
+    c.in-Err.ensures.over over.0 over.1 over.2) (λ none. none) c.cut_off.ensures.over)
 
-pub new-requires-then-not-is_empty : goal.new-requires-then-not-is_empty
-new-requires-then-not-is_empty g c =
-    let talk = c.self.inside.talk in
+pub returns-in-Err-clause-stands : goal.returns-in-Err-clause-stands
+returns-in-Err-clause-stands g c came sent s =
+    match_end c.cut_off.result.1.end (λ done. absurd done) (λ e is over. tt) (λ none. tt) c.cut_off.ensures.over
+
+-- the replies are the output
+
+pub invariant_of-client-in_default : goal.invariant_of-client-in_default
+invariant_of-client-in_default g c =
+    let inside = c.client.inside in
+    ∥∥₁_map c.client.invariant (λ i going.
+    comes_sound c.args.bytes.now c.read-read.new.replies.items (before g inside)
+    (mid g inside c.read-read.new.self c.read-read.new.typed.items)
+    (record { reads = c.in_default.ensures.ok; same = refl }) (i going))
+
+pub new-requires : goal.new-requires
+new-requires g c =
+    let inside = c.client.inside in
     record {
-      tells = ∥∥₁_map (sound g (goal.at.new-requires-then-not-is_empty g c).After-read) (λ s. inr (inr
-          (replies_read talk.framing c.read.new.self s.came c.args.bytes.now _ talk.waiting.items
-          c.read.new.typed.items s.stands.said s.sent c.read.new.replies.items c.in_default.ensures.ok
+      tells = ∥∥₁_map c.client.invariant (λ i.
+          let s : IsSound (before g inside) = i c.if-client.false in
+          inr (inr
+          (replies_read inside.framing c.read-read.new.self s.came c.args.bytes.now _ inside.waiting.items
+          c.read-read.new.typed.items s.stands.said s.sent c.read-read.new.replies.items c.in_default.ensures.ok
           s.stands.frames)));
     }
 
-pub end-requires : goal.end-requires
-end-requires g c = λ none.
-    let talk = c.self.inside.talk in
-    let seat = c.new-place.result.seat in
-    let mid = within (record talk { framing = c.read.new.self; waiting = c.read.new.typed }) seat false in
-    ∥∥₁_map (sound g (goal.at.end-requires g c).After-read)
-    (comes_sound c.args.bytes.now c.read.new.replies.items (within talk seat false) mid
-    (record { reads = c.in_default.ensures.ok; same = refl }))
-
-replied : (g : Over) (c : After-end g) → within c.self.inside.talk c.new-place.result.seat false ≡ c.args.self
-    → Steps c.args.bytes.now c.args.self c.end.result.0 c.end.result.1
-replied g c is =
-    let talk = c.self.inside.talk in
-    let seat = c.new-place.result.seat in
-    let mid = within (record talk { framing = c.read.new.self; waiting = c.read.new.typed }) seat false in
-    let replies = c.read.new.replies in
-    let bytes = c.args.bytes.now in
-    frames_step bytes replies.items c.args.self mid c.end.result.0 c.end.result.1
-    (subst (λ (x : ClientState). Comes bytes replies.items x mid) is
-    (record { reads = c.in_default.ensures.ok; same = refl }))
-    (some_wait replies.items _ replies.ok.0 c.if-not-is_empty.ensures) c.end.ensures.client
-    (ap (λ h. h.text.items) c.end.ensures.text ∙ ap (λ v. v.items) c.new-then-not-is_empty.ensures.text)
-    (ap (λ h. h.version) c.end.ensures.text ∙ c.new-then-not-is_empty.ensures.version) c.end.ensures.line
+replied : (g : Over) (c : After-give g) → Steps c.args.bytes.now c.args.self c.give.result.0 c.give.result.1
+replied g c =
+    let inside = c.client.inside in
+    let replies = c.read-read.new.replies in
+    subst (λ (x : ClientState). Steps c.args.bytes.now x c.give.result.0 c.give.result.1) c.client.view_is
+    (frames_step c.args.bytes.now replies.items (before g inside)
+    (mid g inside c.read-read.new.self c.read-read.new.typed.items) c.give.result.0 c.give.result.1
+    (record { reads = c.in_default.ensures.ok; same = refl })
+    (some_wait replies.items _ replies.ok.0 c.if-not-is_empty.ensures) c.if-client.false c.give.ensures.client
+    (ap (λ h. h.text.items) c.give.ensures.text ∙ ap (λ v. v.items) c.new.ensures.text)
+    (ap (λ h. h.version) c.give.ensures.text ∙ c.new.ensures.version) c.give.ensures.line)
 
 pub returns-then-not-is_empty-clause-step : goal.returns-then-not-is_empty-clause-step
 returns-then-not-is_empty-clause-step g c =
-    let new = c.end.result.0 in
-    let out = c.end.result.1 in
+    let new = c.give.result.0 in
+    let out = c.give.result.1 in
     let bytes = c.args.bytes.now in
     subst (λ (e : Option End). MatchEnd e (Steps bytes c.args.self new out) (λ e. CutsOff bytes e c.args.self new out)
-    (out.text.text.items ≡ [])) (sym c.end.ensures.end)
-    (replied g (goal.at.returns-then-not-is_empty-clause-step g c).After-end
-    (here g (goal.at.returns-then-not-is_empty-clause-step g c).After-read))
+    (out.text.text.items ≡ [])) (sym c.give.ensures.end)
+    (replied g (goal.at.returns-then-not-is_empty-clause-step g c).After-give)
 
 pub returns-then-not-is_empty-clause-stands : goal.returns-then-not-is_empty-clause-stands
 returns-then-not-is_empty-clause-stands g c came sent s =
-    let new = c.end.result.0 in
-    let out = c.end.result.1 in
+    let new = c.give.result.0 in
+    let out = c.give.result.1 in
     let bytes = c.args.bytes.now in
     step_stands bytes came sent c.args.self new out
     (subst (λ (e : Option End). MatchEnd e (Steps bytes c.args.self new out)
-    (λ e. CutsOff bytes e c.args.self new out) (out.text.text.items ≡ [])) (sym c.end.ensures.end)
-    (replied g (goal.at.returns-then-not-is_empty-clause-stands g c).After-end
-    (here g (goal.at.returns-then-not-is_empty-clause-stands g c).After-read))) s
+    (λ e. CutsOff bytes e c.args.self new out) (out.text.text.items ≡ [])) (sym c.give.ensures.end)
+    (replied g (goal.at.returns-then-not-is_empty-clause-stands g c).After-give)) s
+
+-- the first waiting line is fed
 
 pub say-requires : goal.say-requires
-say-requires g c =
-    let talk = c.self.inside.talk in
-    let seat = c.new-place.result.seat in
-    let mid = within (record talk { framing = c.read.new.self; waiting = c.read.new.typed }) seat false in
-    ∥∥₁_map (sound g (goal.at.say-requires g c).After-read) (λ s.
-    line_sound (record talk { framing = c.read.new.self; waiting = c.read.new.typed }) c.feed_line.new.self seat
-    c.feed_line.new.door c.feed_line.ensures.capacity c.in-Ok.ensures.ok
-    (comes_sound c.args.bytes.now c.read.new.replies.items (within talk seat false) mid
-    (record { reads = c.in_default.ensures.ok; same = refl }) s))
+say-requires g c = c.in-Ok.ensures.names c.if-client.false
 
-said : (g : Over) (c : After-say g) → within c.self.inside.talk c.new-place.result.seat false ≡ c.args.self
-    → MatchEnd c.say.result.1.end
-    (Steps c.args.bytes.now c.args.self c.say.result.0 c.say.result.1)
+said : (g : Over) (c : After-say g)
+    → MatchEnd c.say.result.1.end (Steps c.args.bytes.now c.args.self c.say.result.0 c.say.result.1)
     (λ e. CutsOff c.args.bytes.now e c.args.self c.say.result.0 c.say.result.1)
     (c.say.result.1.text.text.items ≡ [])
-said g c is =
-    let talk = c.self.inside.talk in
-    let seat = c.new-place.result.seat in
-    let mid = within (record talk { framing = c.read.new.self; waiting = c.read.new.typed }) seat false in
-    let replies = c.read.new.replies in
+said g c =
+    let inside = c.client.inside in
+    let replies = c.read-read.new.replies in
     let bytes = c.args.bytes.now in
-    line_step bytes replies.items c.args.self mid c.say.result.0 c.say.result.1
-    (subst (λ (x : ClientState). Comes bytes replies.items x mid) is
-    (record { reads = c.in_default.ensures.ok; same = refl }))
-    (none_waits replies.items _ replies.ok.0 c.if-not-is_empty.ensures)
-    (match_end c.say.result.1.end
-    (line_said (record talk { framing = c.read.new.self; waiting = c.read.new.typed }) c.feed_line.new.self seat
-    c.feed_line.new.door c.in-Ok.has_line c.say.result.0 c.say.result.1
-    c.feed_line.ensures.capacity c.in-Ok.ensures.ok c.in-Ok.ensures.line)
-    (λ e is over. over) (λ undone. undone) c.say.ensures.says)
+    let new = c.say.result.0 in
+    let out = c.say.result.1 in
+    subst (λ (x : ClientState). MatchEnd out.end (Steps bytes x new out) (λ e. CutsOff bytes e x new out)
+    (out.text.text.items ≡ [])) c.client.view_is
+    (line_step bytes replies.items c.in-Ok.has_line (before g inside)
+    (mid g inside c.read-read.new.self c.read-read.new.typed.items) c.in-Ok.client new out
+    (record { reads = c.in_default.ensures.ok; same = refl })
+    (none_waits replies.items _ replies.ok.0 c.if-not-is_empty.ensures) c.in-Ok.ensures.ok
+    c.in-Ok.ensures.line c.say.ensures.says)
 
 pub returns-in-Ok-clause-step : goal.returns-in-Ok-clause-step
-returns-in-Ok-clause-step g c =
-    said g (goal.at.returns-in-Ok-clause-step g c).After-say (here g (goal.at.returns-in-Ok-clause-step g c).After-read)
+returns-in-Ok-clause-step g c = said g (goal.at.returns-in-Ok-clause-step g c).After-say
 
 pub returns-in-Ok-clause-stands : goal.returns-in-Ok-clause-stands
 returns-in-Ok-clause-stands g c came sent s =
     step_stands c.args.bytes.now came sent c.args.self c.say.result.0 c.say.result.1
-    (said g (goal.at.returns-in-Ok-clause-stands g c).After-say
-    (here g (goal.at.returns-in-Ok-clause-stands g c).After-read)) s
+    (said g (goal.at.returns-in-Ok-clause-stands g c).After-say) s

@@ -10,7 +10,7 @@ invariant_of-self g c =
     let j = c.self.inside.journal in
     let es : List Entry = c.self.inside.reader in
     let going : j.has_failed ≡ false = sym c.has_failed.ensures ∙ c.if-has_failed.false in
-    committed _ c.commit.result (g.D.Disk.kept j.disk) (g.D.Disk.kept c.commit.new.self.disk) es c.read.new.self
+    committed _ c.commit.result (g.D.Appends.kept j.disk) (g.D.Appends.kept c.commit.new.self.disk) es c.read.new.self
     c.deref.result.now j.count c.commit.new.self.count c.commit.new.self.has_failed
     (c.self.invariant.whole going) (c.self.invariant.counted going)
     (c.in-Ok.ensures.ok ∙ ap (λ l. es ++ l) (sym c.deref.ensures.value)) c.commit.ensures.ok c.commit.ensures.count
@@ -21,8 +21,8 @@ invariant_of-self-in-Err g c =
     let j = c.self.inside.journal in
     let es : List Entry = c.self.inside.reader in
     let going : j.has_failed ≡ false = sym c.has_failed.ensures ∙ c.if-has_failed.false in
-    subst (λ k. IsWritten c.read.new.self (g.D.Disk.kept k.disk) k.has_failed k.count) (sym c.fail.ensures)
-    (unwritten (g.D.Disk.kept j.disk) es c.read.new.self j.count true (c.self.invariant.whole going)
+    subst (λ k. IsWritten c.read.new.self (g.D.Appends.kept k.disk) k.has_failed k.count) (sym c.fail.ensures)
+    (unwritten (g.D.Appends.kept j.disk) es c.read.new.self j.count true (c.self.invariant.whole going)
     c.read.ensures.longer refl)
 
 pub returns-in-Ok-clause-ok : goal.returns-in-Ok-clause-ok
@@ -30,9 +30,9 @@ returns-in-Ok-clause-ok g c =
     let j = c.self.inside.journal in
     let es : List Entry = c.self.inside.reader in
     let going : j.has_failed ≡ false = sym c.has_failed.ensures ∙ c.if-has_failed.false in
-    receipted (λ (r : Receipt). r.up_to) c.commit.result (g.D.Disk.kept c.commit.new.self.disk) c.read.new.self
+    receipted (λ (r : Receipt). r.up_to) c.commit.result (g.D.Appends.kept c.commit.new.self.disk) c.read.new.self
     c.commit.new.self.count (j.count + length c.deref.result.now) c.commit.new.self.has_failed
-    (committed _ c.commit.result (g.D.Disk.kept j.disk) (g.D.Disk.kept c.commit.new.self.disk) es c.read.new.self
+    (committed _ c.commit.result (g.D.Appends.kept j.disk) (g.D.Appends.kept c.commit.new.self.disk) es c.read.new.self
     c.deref.result.now j.count c.commit.new.self.count c.commit.new.self.has_failed
     (c.self.invariant.whole going) (c.self.invariant.counted going)
     (c.in-Ok.ensures.ok ∙ ap (λ l. es ++ l) (sym c.deref.ensures.value)) c.commit.ensures.ok c.commit.ensures.count

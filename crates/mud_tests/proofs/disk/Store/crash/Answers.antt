@@ -1,5 +1,5 @@
 use Rattle.std.proofs.Common.{◌≡◌, List, ℕ, ◌++◌, subst, ap, ◌∙◌}
-use Rattle.mud_journal.specs.Disk.{AreThere}
+use Rattle.mud_journal.specs.Crash.{AreThere}
 use Rattle.mud_tests.proofs.Holes.{left_of}
 use Rattle.mud_tests.proofs.disk.Store.crash.Goals as goal
 

@@ -1,5 +1,0 @@
-use Rattle.mud_client.proofs.Leaving.{says_none}
-use Rattle.mud_client.proofs.talk.Talk.refuse.Goals as goal
-
-pub new-nothing-requires : goal.new-nothing-requires
-new-nothing-requires g c = record { tells = ∣ says_none c.new.result.items c.new.ensures.items ∣₁ }

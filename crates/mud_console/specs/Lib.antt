@@ -1,0 +1,4 @@
+pub mod Texts
+pub mod Order
+pub mod Countdown
+pub mod Answer

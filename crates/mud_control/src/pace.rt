@@ -1,0 +1,102 @@
+//! Rate limits of sessions.
+
+use crate::address::AddressMeters;
+use crate::rates::{CHANGES_AT_ONCE, LINES_AT_ONCE, MINUTE, Rates, WORK_AT_ONCE};
+use mud_meter::Meter;
+use std::sync::{Arc, Wait};
+use std::time::Duration;
+
+/// The rate limits of a session. The server reads the lines beyond them later.
+#[derive(Drop)]
+pub struct Pace {
+    lines: Meter,
+    changes: Meter,
+    // In milliseconds.
+    work: Meter,
+    shared: Option<Arc<AddressMeters>>,
+    // True if the session's own token for the next line was taken already, and that of its address.
+    has_token: bool,
+    has_shared: bool,
+}
+
+impl Pace {
+    /// Returns the limits of a session that begins now, with the meters that it shares with others of its address.
+    pub fn new(rates: &Rates, shared: Option<Arc<AddressMeters>>, now: Duration) -> Pace {
+        let (lines, changes, work) = (
+            rates.lines_per_second,
+            rates.changes_per_minute,
+            rates.work_per_second,
+        );
+        Pace {
+            lines: Meter::new(
+                lines.saturating_mul(MINUTE),
+                lines.saturating_mul(LINES_AT_ONCE),
+                now,
+            ),
+            changes: Meter::new(changes, changes.saturating_mul(CHANGES_AT_ONCE), now),
+            work: Meter::new(
+                work.saturating_mul(MINUTE),
+                work.saturating_mul(WORK_AT_ONCE),
+                now,
+            ),
+            shared,
+            has_token: false,
+            has_shared: false,
+        }
+    }
+
+    /// Returns true if the session shares meters with others of its address.
+    pub fn is_shared(&self) -> bool {
+        self.shared.is_some()
+    }
+
+    // Takes the token of the session itself. Returns the time to wait if there is none.
+    fn wait_for_own(&mut self, now: Duration) -> Option<Duration> {
+        if let Some(wait) = self.changes.wait(now) {
+            return Some(wait);
+        }
+        if let Some(wait) = self.work.wait(now) {
+            return Some(wait);
+        }
+        if self.has_token {
+            return None;
+        }
+        let wait = self.lines.take(now, 1);
+        self.has_token = wait.is_none();
+        wait
+    }
+
+    /// Takes the tokens for the next line. Returns the time to wait if one is missing; then the caller tries again.
+    pub fn take_line<R: Wait>(&mut self, rt: &R, now: Duration) -> Option<Duration> {
+        if let Some(wait) = self.wait_for_own(now) {
+            return Some(wait);
+        }
+        if !self.has_shared
+            && let Some(shared) = &self.shared
+            && let Some(wait) = shared.take_line(rt, now)
+        {
+            return Some(wait);
+        }
+        self.has_token = false;
+        self.has_shared = false;
+        None
+    }
+
+    /// Keeps the tokens of a line that needed none for the next line.
+    pub fn give_back(&mut self) {
+        self.has_token = true;
+        self.has_shared = true;
+    }
+
+    /// Counts an answered line: the time that it took, and whether it made a change.
+    pub fn spend<R: Wait>(&mut self, rt: &R, now: Duration, work: Duration, has_changed: bool) {
+        let millis = u32::try_from(work.as_millis()).unwrap_or(u32::MAX);
+        self.work.spend(now, millis);
+        if has_changed {
+            self.changes.spend(now, 1);
+            if let Some(shared) = &self.shared {
+                shared.spend_change(rt, now);
+            }
+        }
+    }
+}

@@ -1,0 +1,5 @@
+mod Found
+mod Objects
+mod Same
+mod Texts
+mod Deciding

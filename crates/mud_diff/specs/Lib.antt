@@ -1,0 +1,5 @@
+pub mod Differences
+pub mod Rows
+pub mod Laws
+pub mod Answer
+pub mod inner

@@ -1,0 +1,23 @@
+use Rattle.std.proofs.Common.{refl}
+use Rattle.mud_status.proofs.metrics.metrics_of.Goals as goal
+
+pub returns : goal.returns
+returns c =
+    rw (
+      c.gauge.ensures,
+      c.gauge-2.ensures,
+      c.gauge-3.ensures,
+      c.gauge-4.ensures,
+      c.gauge-5.ensures,
+      c.gauge-6.ensures,
+      c.gauge-7.ensures,
+      c.gauge-8.ensures,
+      c.gauge-9.ensures,
+      c.gauge-10.ensures,
+      c.counter.ensures,
+      c.counter-2.ensures,
+      c.counter-3.ensures,
+      c.counter-4.ensures,
+      c.as_number-well.ensures,
+    )
+    refl

@@ -1,0 +1,4 @@
+pub mod Status
+pub mod Metrics
+pub mod Reply
+pub mod inner

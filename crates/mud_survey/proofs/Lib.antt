@@ -1,0 +1,9 @@
+mod Listing
+mod Coming
+mod Flooding
+mod Counting
+mod Trailing
+mod Testing
+mod Merging
+mod Parties
+mod Writing

@@ -1,0 +1,4 @@
+pub mod Marks
+pub mod Trailed
+pub mod Tests
+pub mod Meant

@@ -1,0 +1,5 @@
+mod Numbers
+mod Built
+mod Parts
+mod Spares
+mod Reasons

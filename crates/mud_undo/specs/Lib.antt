@@ -1,0 +1,4 @@
+pub mod Choices
+pub mod Without
+pub mod Answer
+pub mod inner

@@ -1,0 +1,242 @@
+"""The rate limits of a server. It reads the lines beyond them later, in order, and loses none. The limits and their
+defaults are those of docs/HOSTING.md.
+"""
+import contextlib
+import re
+import socket
+import subprocess
+import tempfile
+import threading
+import time
+
+from harness.guests import is_soon
+from harness.hosted import SECONDS, Hosted, come, lines_until
+from harness.inputs import read
+from harness.parts import part
+from harness.programs import TOP, program
+from harness.server import HOST
+from harness.web import WebServer
+
+# The entries of a history that takes some milliseconds to print.
+LONG = 20_000
+# A row of the page's table: an option, its default and its burst.
+LIMIT = re.compile(r"^\| `--([a-z-]+)` \| ([\d,]+) \| ([\d,]+) \|", re.M)
+
+
+def build(port, count):
+    """Pastes lines of a house in one piece. Returns the time of each reply in seconds, and the replies."""
+    client = come(port, b"Ann")
+    lines = [b"say brick %d" % at for at in range(count)]
+    began, came, replies = time.monotonic(), [], []
+    client.socket.settimeout(120)
+    sending = threading.Thread(target=client.send_all, args=(lines,))
+    sending.start()
+    for _ in lines:
+        replies.append(client.line())
+        came.append(time.monotonic() - began)
+    sending.join()
+    client.close()
+    return came, replies
+
+
+def replies_of(count, first=2):
+    """Returns the replies to this many lines of `say`, from this version on."""
+    return [b"[%d] said" % (first + at) for at in range(count)]
+
+
+def why_pasted():
+    """A house of 198 lines is built at once by default. Further lines are read later, in order, and none is lost."""
+    with Hosted("--changes-per-minute", "1200", limited=True) as hosted, hosted.console() as console:
+        came, replies = build(hosted.server.port, 300)
+        waited = console.status()["waited"]
+        right = replies == replies_of(300) and came[190] < 2 and 3 < came[299] < 12 and int(waited) > 50
+        slow = [line for line in hosted.log() if line.startswith("slow ")]
+        right &= len(slow) == 1 and re.fullmatch(rf"slow session=1 from={HOST}:[0-9]+", slow[0]) is not None
+        return "" if right else f"{came[190]:.1f} s, {came[299]:.1f} s, waited {waited}, {slow}, {replies[-1]}"
+
+
+def why_changed():
+    """After two hundred changes a session is read later, at the pace of its changes; questions wait with them."""
+    with Hosted("--lines-per-second", "0", "--changes-per-minute", "60", limited=True) as hosted:
+        came, replies = build(hosted.server.port, 603)
+        right = replies == replies_of(603) and came[590] < 10 and 2 < came[602] - came[595] < 10
+        return "" if right else f"{came[590]:.1f}, {came[595]:.1f}, {came[602]:.1f}, {replies[-1]}"
+
+
+def why_web_paced():
+    """On the web further lines are read later too, in order, and notices come meanwhile."""
+    words = ["--lines-per-second", "10", "--changes-per-minute", "0"]
+    with WebServer(*words, limited=True) as server:
+        bob, ann = server.player(b"Bob"), come(server.port, b"Ann")
+        for at in range(130):
+            bob.send(b"say %d" % at)
+        began = time.monotonic()
+        ann.send(b"say hello")
+        said, heard = [], None
+        while len(said) < 130:
+            line = bob.line()
+            said += [line] * line.endswith(b"said")
+            if b"hello" in line:
+                heard = time.monotonic() - began
+        took = time.monotonic() - began
+        versions = [int(line[1:line.index(b"]")]) for line in said]
+        right = len(said) == 130 and versions == sorted(versions) and 1.5 < took < 8 and heard is not None and heard < 2
+        return "" if right else f"{len(said)} of 130, {took:.1f} s, heard after {heard}"
+
+
+def why_addressed():
+    """The sessions of an address share its limits, and those of a loopback address have none."""
+    words = ["--address", "0.0.0.0", "--lines-per-second", "0", "--changes-per-minute", "0"]
+    words += ["--address-lines-per-second", "5", "--address-changes-per-minute", "0"]
+    outside = outside_address()
+    if outside is None:
+        return ""
+    with Hosted(*words, limited=True) as hosted:
+        port = hosted.server.port
+
+        def ask(source, count):
+            with socket.create_connection((outside if source == outside else HOST, port), timeout=60) as one:
+                began = time.monotonic()
+                one.sendall(b"look\r\n" * count)
+                came = b""
+                while came.count(b"understand") < count:
+                    came += one.recv(65_536)
+                return time.monotonic() - began
+
+        alone, both = ask(outside, 40), []
+        threads = [threading.Thread(target=lambda: both.append(ask(outside, 20))) for _ in range(2)]
+        for thread in threads:
+            thread.start()
+        near = ask(HOST, 500)
+        for thread in threads:
+            thread.join()
+        right = alone < 2 and len(both) == 2 and max(both) > 3 and near < 3
+        return "" if right else f"alone {alone:.1f} s, two {both}, near {near:.1f} s"
+
+
+def outside_address():
+    """Returns an address of this machine that is not a loopback address, or None."""
+    with contextlib.suppress(OSError), socket.socket(socket.AF_INET, socket.SOCK_DGRAM) as one:
+        one.connect(("192.0.2.1", 9))
+        address = one.getsockname()[0]
+        return None if address.startswith("127.") else address
+    return None
+
+
+def why_connects():
+    """Connections beyond the limit of an address are closed silently, and counted."""
+    outside = outside_address()
+    if outside is None:
+        return ""
+    with Hosted("--address", "0.0.0.0", "--connects-per-minute", "5") as hosted, hosted.console() as console:
+        greeted = 0
+        for _ in range(8):
+            with socket.create_connection((outside, hosted.server.port), timeout=SECONDS) as one:
+                with contextlib.suppress(ConnectionError):
+                    greeted += one.recv(100).startswith(b"Welcome")
+        counted = console.status()["refused_often"]
+        logged = is_soon(lambda: any(f"refused from={outside} why=often" in line for line in hosted.log()))
+        return "" if (greeted, counted, logged) == (5, "3", True) else f"{greeted}, {counted}, {hosted.log()}"
+
+
+def why_slow_person():
+    """A line every twentieth of a second, as fast as a key repeats, never waits for five seconds."""
+    with Hosted(limited=True) as hosted, hosted.console() as console:
+        client, slowest = come(hosted.server.port, b"Ann"), 0
+        for at in range(100):
+            began = time.monotonic()
+            client.send(b"look" if at % 2 else b"@version")
+            while b"[" not in (client.line() or b"["):
+                pass
+            slowest = max(slowest, time.monotonic() - began)
+            time.sleep(0.05)
+        waited = console.status()["waited"]
+        return "" if waited == "0" and slowest < 1 else f"waited {waited}, {slowest:.2f} s"
+
+
+def why_stopped():
+    """A server whose sessions wait for a limit stops at once, and so does a session that the host ends."""
+    words = ["--lines-per-second", "1", "--changes-per-minute", "1"]
+    with Hosted(*words, limited=True) as hosted, hosted.console() as console:
+        ann, bob = come(hosted.server.port, b"Ann"), come(hosted.server.port, b"Bob")
+        for client in (ann, bob):
+            client.send_all([b"say more"] * 50)
+        time.sleep(0.5)
+        began = time.monotonic()
+        console.ask("end 1")
+        lines_until(ann, b"(ended by the host)")
+        ended = time.monotonic() - began
+        console.ask("tell still here")
+        lines_until(bob, b"(host: still here)")
+        told = time.monotonic() - began
+        console.ask("stop")
+        lines_until(bob, b"(server stops)")
+        stopped, (status, _) = time.monotonic() - began, hosted.server.end()
+        return "" if status == 0 and stopped < 3 else f"{ended:.1f}, {told:.1f}, {stopped:.1f} s, status {status}"
+
+
+def why_worked():
+    """A session whose questions have taken too much time waits, as the log says; without the limit it does not."""
+    waited = []
+    with tempfile.TemporaryDirectory() as folder:
+        path = f"{folder}/long"
+        command = [program("mud_serve"), "script", "--history", path]
+        subprocess.run(command, input=b"say hello\n" * LONG, stdout=subprocess.DEVNULL, check=True)
+        for rate, patience in (("1", SECONDS), ("0", 2)):
+            with Hosted("--load", path, "--work-per-second", rate, limited=True) as hosted, hosted.console() as console:
+                ann = come(hosted.server.port, b"Ann")
+                ann.send_all([b"@history"] * 4)
+                waited.append(is_soon(lambda: console.status()["waited"] != "0", seconds=patience))
+                waited.append(any(line.startswith("slow session=1 ") for line in hosted.log()))
+    return "" if waited == [True, True, False, False] else f"{waited}"
+
+
+def why_address_changed():
+    """The sessions of an address share its changes: beyond them a change waits, and a question too."""
+    outside = outside_address()
+    if outside is None:
+        return ""
+    words = ["--address", "0.0.0.0", "--lines-per-second", "0", "--changes-per-minute", "0"]
+    words += ["--address-lines-per-second", "0", "--address-changes-per-minute", "3"]
+    with Hosted(*words, limited=True) as hosted, hosted.console() as console:
+        players = [socket.create_connection((outside, hosted.server.port), timeout=SECONDS) for _ in range(2)]
+        for at, player in enumerate(players):
+            player.sendall(b"connect P%d\r\n" % at + b"say on\r\n" * 40)
+        waits = is_soon(lambda: console.status()["waited"] == "2")
+        made = console.status()["made"]
+        for player in players:
+            player.close()
+        # both may find the last change free at once
+        return "" if waits and made in ("30", "31") else f"{waits}, {made}, {console.status()}"
+
+
+def why_defaults():
+    """The page has the default of each limit, and its burst by the rule that it follows."""
+    rows = {name: (rate, burst) for name, rate, burst in LIMIT.findall(read(f"{TOP}/docs/HOSTING.md").decode())}
+    command = [program("mud_serve"), "listen", "--port", "0", "--address", HOST, "--check"]
+    lines = subprocess.run(command, capture_output=True, text=True, check=True).stdout.splitlines()
+    known = dict(line.split() for line in lines)
+    times = {"lines-per-second": 10, "changes-per-minute": 10, "work-per-second": 4, "address-lines-per-second": 10,
+             "address-changes-per-minute": 10, "connects-per-minute": 1}
+    right = {name: (known[name], f"{int(known[name]) * many:,}") for name, many in times.items()}
+    return "" if rows == right else f"the page has {rows}, and the program {right}"
+
+
+ROWS = [
+    ("their defaults", why_defaults),
+    ("a pasted house", why_pasted),
+    ("changes", why_changed),
+    ("work", why_worked),
+    ("on the web", why_web_paced),
+    ("lines of an address", why_addressed),
+    ("changes of an address", why_address_changed),
+    ("connections of an address", why_connects),
+    ("one who types as people do", why_slow_person),
+    ("a stop while sessions wait", why_stopped),
+]
+
+
+@part("limits", "lines beyond a rate limit are read later, in order, and none is lost")
+def limits(count):
+    for what, why_wrong in ROWS:
+        count.tries(f"limits: {what}", why_wrong)

@@ -24,61 +24,63 @@ mod words;
 #[path = "plain/world.rs"]
 mod world;
 
-use lines::answer;
+use lines::{answer, push_number};
 use std::hint::black_box;
 use std::io::{self, BufRead, BufWriter, Write};
 use terminal::{Terminal, Unit};
 use words::{Line, spelled_out};
 use world::World;
 
-/// A session: its terminal, the world, and the text of an answer.
-struct Session<W: Write> {
+/// A session: its terminal, the world, the text of an answer, and the output.
+#[derive(Default)]
+struct Session {
     world: World,
     terminal: Terminal,
-    text: String,
-    out: W,
+    text: Vec<u8>,
+    out: Vec<u8>,
 }
 
-impl<W: Write> Session<W> {
-    /// Answers a line; a blank one has no answer.
-    fn answer(&mut self, typed: &str) -> io::Result<()> {
-        let typed = spelled_out(typed);
-        let Some(line) = Line::read(&typed) else { return Ok(()) };
+impl Session {
+    /// Answers the line of the terminal; a blank one has no answer.
+    fn answer(&mut self) {
+        let typed = spelled_out(self.terminal.line());
+        let Some(line) = Line::read(&typed) else { return };
         self.text.clear();
         answer(&mut self.world, &line, &mut self.text);
-        let version = self.world.history.len();
-        write!(self.out, "[{version}] ")?;
-        self.out.write_all(self.text.as_bytes())?;
-        self.out.write_all(b"\r\n")
+        self.out.push(b'[');
+        push_number(&mut self.out, self.world.version());
+        self.out.extend_from_slice(b"] ");
+        self.out.extend_from_slice(&self.text);
+        self.out.extend_from_slice(b"\r\n");
     }
 
     /// Answers all units of these bytes.
-    fn feed(&mut self, mut bytes: &[u8]) -> io::Result<()> {
+    fn feed(&mut self, mut bytes: &[u8]) {
         while let Some(unit) = self.terminal.next(&mut bytes) {
             match unit {
-                Unit::Text(typed) => self.answer(&typed)?,
-                Unit::TooLong => self.out.write_all(b"(line too long)\r\n")?,
-                Unit::AreYouThere => self.out.write_all(b"[Yes]\r\n")?,
-                Unit::Answer(bytes) => self.out.write_all(&bytes)?,
+                Unit::Text => self.answer(),
+                Unit::TooLong => self.out.extend_from_slice(b"(line too long)\r\n"),
+                Unit::AreYouThere => self.out.extend_from_slice(b"[Yes]\r\n"),
+                Unit::Answer(bytes) => self.out.extend_from_slice(&bytes),
             }
-            self.out.flush()?;
         }
-        Ok(())
     }
 }
 
 /// Answers a script.
 fn play() -> io::Result<()> {
-    let (mut input, out) = (io::stdin().lock(), BufWriter::new(io::stdout().lock()));
-    let mut session = Session { world: World::opening(), terminal: Terminal::default(), text: String::new(), out };
+    let (mut input, mut out) = (io::stdin().lock(), io::stdout().lock());
+    let mut session = Session { world: World::opening(), ..Session::default() };
     loop {
         let piece = input.fill_buf()?;
         let length = piece.len();
         if length == 0 {
             break;
         }
-        session.feed(piece)?;
+        session.feed(piece);
         input.consume(length);
+        out.write_all(&session.out)?;
+        session.out.clear();
     }
     black_box(&session.world);
     Ok(())

@@ -1,8 +1,10 @@
 //! The changes of a plain program, written as docs/HISTORY.md says.
 
 use std::fmt::{self, Display, Formatter};
+use std::rc::Rc;
 
-pub type Names = Vec<String>;
+/// The names of an object, shared with the change that gave them.
+pub type Names = Rc<[String]>;
 
 /// The destination of a new exit: a new room with these names, or an old one.
 pub enum Target {

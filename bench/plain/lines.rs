@@ -5,7 +5,7 @@ use crate::keys::Key;
 use crate::roads::{Map, Roads};
 use crate::words::{Line, Parts};
 use crate::world::{Kind, WIZARD, World, names_of};
-use std::fmt::Write;
+use std::io::Write;
 
 /// The reason why a line is refused.
 #[derive(Clone, Copy, PartialEq)]
@@ -56,8 +56,8 @@ fn need(holds: bool, refusal: Refusal) -> Result<(), Refusal> {
 }
 
 /// Pushes the answer to a line. It makes a change, and stores it in the history.
-pub fn answer(world: &mut World, line: &Line, text: &mut String) {
-    let told = match line.verb.as_str() {
+pub fn answer(world: &mut World, line: &Line, text: &mut Vec<u8>) {
+    let told = match &*line.verb {
         "say" | "emote" => talk(world, line, text),
         "look" | "l" => look(world, line, text),
         "go" => meant(world, &line.all()).and_then(|exit| walk(world, exit, text)),
@@ -67,27 +67,32 @@ pub fn answer(world: &mut World, line: &Line, text: &mut String) {
         "@cost" => cost(world, line, text),
         "@lock" => lock(world, line, text),
         "route" => route(world, line, text),
-        "@version" => need(line.words().is_empty(), NotUnderstood).map(|()| text.push_str("version")),
+        "@version" => need(line.words().is_empty(), NotUnderstood).map(|()| push(text, "version")),
         "@history" => need(line.words().is_empty(), NotUnderstood).map(|()| push_history(world, text)),
         verb if OTHERS.split(' ').any(|it| it == verb) => panic!("no {verb} here"),
         _ => exit_named(world, line).and_then(|exit| walk(world, exit, text)),
     };
     if let Err(refusal) = told {
-        text.push_str(text_of(refusal));
+        push(text, text_of(refusal));
     }
+}
+
+fn push(text: &mut Vec<u8>, more: &str) {
+    text.extend_from_slice(more.as_bytes());
 }
 
 /// Pushes `#` and a number.
-fn push_object(text: &mut String, number: u32) {
-    text.push('#');
+fn push_object(text: &mut Vec<u8>, number: u32) {
+    text.push(b'#');
     push_number(text, number);
 }
 
-fn push_number(text: &mut String, number: u32) {
+/// Pushes a number.
+pub fn push_number(text: &mut Vec<u8>, number: u32) {
     if number >= 10 {
         push_number(text, number / 10);
     }
-    text.push((b'0' + (number % 10) as u8) as char);
+    text.push(b'0' + (number % 10) as u8);
 }
 
 fn here(world: &World) -> u32 {
@@ -153,12 +158,8 @@ fn exit_named(world: &World, line: &Line) -> Result<u32, Refusal> {
 
 // ---- questions
 
-fn look(world: &World, line: &Line, text: &mut String) -> Answer {
-    let mut words = line.words();
-    if words.len() > 1 && words[0].eq_ignore_ascii_case("at") {
-        words = &words[1..];
-    }
-    let number = if words.is_empty() { here(world) } else { meant(world, &words.join(" "))? };
+fn look(world: &World, line: &Line, text: &mut Vec<u8>) -> Answer {
+    let number = if line.words().is_empty() { here(world) } else { meant(world, &looked_at(line))? };
     let object = world.of(number);
     push_shown(world, text, number);
     push_list(world, text, "\r\n  contents ", &object.contents);
@@ -171,62 +172,69 @@ fn look(world: &World, line: &Line, text: &mut String) -> Answer {
     Ok(())
 }
 
-fn push_shown(world: &World, text: &mut String, number: u32) {
-    text.push_str(&world.of(number).names[0]);
-    text.push(' ');
-    push_object(text, number);
+/// Returns the text of what is looked at: all words, but no `at` before another one.
+fn looked_at(line: &Line) -> String {
+    let words = line.words();
+    let is_at = words.len() > 1 && words[0].eq_ignore_ascii_case("at");
+    words[usize::from(is_at)..].join(" ")
 }
 
-fn push_list(world: &World, text: &mut String, title: &str, numbers: &[u32]) {
+fn push_shown(world: &World, text: &mut Vec<u8>, number: u32) {
+    push(text, &world.of(number).names[0]);
+    push(text, " #");
+    push_number(text, number);
+}
+
+fn push_list(world: &World, text: &mut Vec<u8>, title: &str, numbers: &[u32]) {
     let mut before = title;
     for number in numbers.iter().filter(|it| **it != WIZARD) {
-        text.push_str(before);
+        push(text, before);
         push_shown(world, text, *number);
         before = ", ";
     }
 }
 
-fn push_history(world: &World, text: &mut String) {
-    text.push_str("history\r\nmud history 2\r\n");
+fn push_history(world: &World, text: &mut Vec<u8>) {
+    push(text, "history\r\nmud history 2\r\n");
     for (change, version) in world.history.iter().zip(1..) {
         write!(text, "{version} 1 {change}\r\n").expect("memory");
     }
     write!(text, "end {}", world.history.len()).expect("memory");
 }
 
-fn route(world: &World, line: &Line, text: &mut String) -> Answer {
+fn route(world: &World, line: &Line, text: &mut Vec<u8>) -> Answer {
     let parts = line.parts().filter(|it| it.preposition == "at" && it.direct.is_empty() && !it.indirect.is_empty());
     let target = room_meant(world, &parts.ok_or(NotUnderstood)?.indirect)?;
-    text.push_str(&Roads { map: world, open: world.all_open(WIZARD) }.route(here(world), target));
+    push(text, &Roads { map: world, open: world.all_open(WIZARD) }.route(here(world), target));
     Ok(())
 }
 
 // ---- changes
 
-fn talk(world: &mut World, line: &Line, text: &mut String) -> Answer {
-    need((1..=900).contains(&line.rest.len()), BadName)?;
-    let is_said = line.verb == "say";
-    let said = line.rest.to_owned();
+fn talk(world: &mut World, line: &Line, text: &mut Vec<u8>) -> Answer {
+    let said = line.rest();
+    need((1..=900).contains(&said.len()), BadName)?;
+    let (is_said, said) = (line.verb == "say", said.to_owned());
     world.record(WIZARD, if is_said { Deed::Say(said) } else { Deed::Emote(said) });
-    text.push_str(if is_said { "said" } else { "done" });
+    push(text, if is_said { "said" } else { "done" });
     Ok(())
 }
 
-fn walk(world: &mut World, exit: u32, text: &mut String) -> Answer {
+fn walk(world: &mut World, exit: u32, text: &mut Vec<u8>) -> Answer {
     let Kind::Exit((source, to, _)) = world.of(exit).kind else { return Err(WrongKind) };
     need(source == here(world), NotHere)?;
     need(world.is_open(exit, WIZARD), LockedExit)?;
     need(world.is_open(to, WIZARD), LockedRoom)?;
     world.put(WIZARD, to);
     world.record(WIZARD, Deed::Walk(exit));
-    text.push_str("went by ");
+    push(text, "went by ");
     push_object(text, exit);
-    text.push_str(" to ");
+    push(text, " to ");
     push_object(text, to);
     Ok(())
 }
 
-fn drop_thing(world: &mut World, thing: u32, text: &mut String) -> Answer {
+fn drop_thing(world: &mut World, thing: u32, text: &mut Vec<u8>) -> Answer {
     need(matches!(world.of(thing).kind, Kind::Thing(_)), WrongKind)?;
     need(world.is_within(thing, WIZARD), NotHere)?;
     let room = here(world);
@@ -234,19 +242,19 @@ fn drop_thing(world: &mut World, thing: u32, text: &mut String) -> Answer {
     need(world.is_open(thing, room), LockedThing)?;
     world.put(thing, room);
     world.record(WIZARD, Deed::Move(thing, room));
-    text.push_str("dropped ");
+    push(text, "dropped ");
     push_object(text, thing);
     Ok(())
 }
 
-fn create(world: &mut World, line: &Line, text: &mut String) -> Answer {
+fn create(world: &mut World, line: &Line, text: &mut Vec<u8>) -> Answer {
     let all = line.all();
     need(!all.is_empty(), NotUnderstood)?;
     let names = names_of(&all).ok_or(BadName)?;
     need(world.room_left() > 0, WorldFull)?;
     let number = world.add(names.clone(), WIZARD, Kind::Thing(WIZARD));
     world.record(WIZARD, Deed::Make(names));
-    text.push_str("made ");
+    push(text, "made ");
     push_object(text, number);
     Ok(())
 }
@@ -257,7 +265,7 @@ fn doors_of(sides: &[&str]) -> Result<Vec<Names>, Refusal> {
     sides.iter().map(|side| names_of(side).ok_or(BadName)).collect()
 }
 
-fn dig(world: &mut World, line: &Line, text: &mut String) -> Answer {
+fn dig(world: &mut World, line: &Line, text: &mut Vec<u8>) -> Answer {
     let Some(Parts { direct, preposition, indirect }) = line.parts() else {
         let all = line.all();
         need(!all.is_empty(), NotUnderstood)?;
@@ -272,40 +280,40 @@ fn dig(world: &mut World, line: &Line, text: &mut String) -> Answer {
     }
 }
 
-fn dig_new(world: &mut World, names: Names, doors: Vec<Names>, text: &mut String) -> Answer {
+fn dig_new(world: &mut World, names: Names, doors: Vec<Names>, text: &mut Vec<u8>) -> Answer {
     need(doors.len() < world.room_left(), WorldFull)?;
     let room = world.add(names.clone(), WIZARD, Kind::Room);
-    text.push_str("dug room ");
+    push(text, "dug room ");
     push_object(text, room);
     add_doors(world, room, &doors, ", ", text);
     world.record(WIZARD, Deed::Dig(Target::New(names), doors));
     Ok(())
 }
 
-fn dig_to(world: &mut World, room: u32, sides: &[&str], text: &mut String) -> Answer {
+fn dig_to(world: &mut World, room: u32, sides: &[&str], text: &mut Vec<u8>) -> Answer {
     need(world.has(room), NoSuch)?;
     need(matches!(world.of(room).kind, Kind::Room), WrongKind)?;
     let doors = doors_of(sides)?;
     need(doors.len() <= world.room_left(), WorldFull)?;
-    text.push_str("dug ");
+    push(text, "dug ");
     add_doors(world, room, &doors, "", text);
     world.record(WIZARD, Deed::Dig(Target::Old(room), doors));
     Ok(())
 }
 
 /// Makes the exits to a room and back, and says so.
-fn add_doors(world: &mut World, room: u32, doors: &[Names], before: &str, text: &mut String) {
+fn add_doors(world: &mut World, room: u32, doors: &[Names], before: &str, text: &mut Vec<u8>) {
     let here = here(world);
     let ways = [(before, "exit ", here, room), (", ", "exit back ", room, here)];
     for (names, (before, title, from, to)) in doors.iter().zip(ways) {
         let exit = world.add(names.clone(), WIZARD, Kind::Exit((from, to, 1)));
-        text.push_str(before);
-        text.push_str(title);
+        push(text, before);
+        push(text, title);
         push_object(text, exit);
     }
 }
 
-fn cost(world: &mut World, line: &Line, text: &mut String) -> Answer {
+fn cost(world: &mut World, line: &Line, text: &mut Vec<u8>) -> Answer {
     let parts = line.parts().filter(|it| it.preposition == "is" && !it.direct.is_empty() && !it.indirect.is_empty());
     let Parts { direct, indirect, .. } = parts.ok_or(NotUnderstood)?;
     let exit = meant(world, &direct)?;
@@ -318,7 +326,7 @@ fn cost(world: &mut World, line: &Line, text: &mut String) -> Answer {
     Ok(())
 }
 
-fn lock(world: &mut World, line: &Line, text: &mut String) -> Answer {
+fn lock(world: &mut World, line: &Line, text: &mut Vec<u8>) -> Answer {
     let parts = line.parts().filter(|it| it.preposition == "with" && !it.direct.is_empty() && !it.indirect.is_empty());
     let Parts { direct, indirect, .. } = parts.ok_or(NotUnderstood)?;
     let object = meant(world, &direct)?;

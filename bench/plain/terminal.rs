@@ -20,7 +20,8 @@ const DONT: u8 = 254;
 const IAC: u8 = 255;
 
 pub enum Unit {
-    Text(String),
+    /// The end of the line that the terminal holds; it stays until the next unit is asked for.
+    Text,
     TooLong,
     AreYouThere,
     Answer([u8; 3]),
@@ -42,12 +43,16 @@ pub struct Terminal {
     place: Place,
     is_after_return: bool,
     is_too_long: bool,
+    has_ended: bool,
     line: Vec<u8>,
 }
 
 impl Terminal {
     /// Returns the next unit of these bytes, and consumes them up to its end; nothing if they give no more.
     pub fn next(&mut self, bytes: &mut &[u8]) -> Option<Unit> {
+        if std::mem::take(&mut self.has_ended) {
+            self.erase_line();
+        }
         while let Some((&byte, rest)) = bytes.split_first() {
             if matches!(self.place, Place::Data) && is_character(byte) {
                 *bytes = self.characters(bytes);
@@ -136,9 +141,13 @@ impl Terminal {
     }
 
     fn end(&mut self) -> Unit {
-        let line = std::mem::take(&mut self.line);
-        let is_too_long = std::mem::take(&mut self.is_too_long);
-        if is_too_long { Unit::TooLong } else { Unit::Text(String::from_utf8(line).expect("ASCII")) }
+        self.has_ended = true;
+        if self.is_too_long { Unit::TooLong } else { Unit::Text }
+    }
+
+    /// Returns the line.
+    pub fn line(&self) -> &str {
+        str::from_utf8(&self.line).expect("ASCII")
     }
 }
 

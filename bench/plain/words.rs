@@ -23,10 +23,9 @@ const PREPOSITIONS: [&str; 15] = [
 
 pub struct Line<'a> {
     /// The first word in lower case.
-    pub verb: String,
-    /// The text behind the first word, as typed.
-    pub rest: &'a str,
-    words: Vec<Cow<'a, str>>,
+    pub verb: Cow<'a, str>,
+    /// The text behind the first word and its space, as typed.
+    behind: &'a str,
 }
 
 /// The text before a preposition, the first phrase of its row, and the text after it.
@@ -38,37 +37,46 @@ pub struct Parts {
 
 /// Returns the line that this one stands for if it begins with a sign.
 pub fn spelled_out(text: &str) -> Cow<'_, str> {
-    let text = text.trim_start_matches(' ');
-    let verb = match text.bytes().next() {
+    let verb = match text.bytes().find(|sign| *sign != b' ') {
         Some(b'"') => "say ",
         Some(b':') => "emote ",
         Some(b';') => "eval ",
         _ => return text.into(),
     };
-    (verb.to_owned() + &text[1..]).into()
+    (verb.to_owned() + &text.trim_start_matches(' ')[1..]).into()
 }
 
 impl Line<'_> {
     /// Parses a spelled-out line; a blank one gives nothing.
     pub fn read(text: &str) -> Option<Line<'_>> {
-        let (words, end) = words_of(text);
-        let verb = words.first()?.to_ascii_lowercase();
-        Some(Line { verb, rest: text[end..].trim_matches(' '), words })
+        let (verb, behind) = first_word(text)?;
+        Some(Line { verb: lower(verb), behind })
+    }
+
+    /// Returns the text behind the first word, without the spaces at its ends.
+    pub fn rest(&self) -> &str {
+        self.behind.trim_matches(' ')
     }
 
     /// Returns the words after the verb.
-    pub fn words(&self) -> &[Cow<'_, str>] {
-        &self.words[1..]
+    pub fn words(&self) -> Vec<Cow<'_, str>> {
+        let (mut words, mut text) = (Vec::new(), self.behind);
+        while let Some((word, behind)) = first_word(text) {
+            words.push(word);
+            text = behind;
+        }
+        words
     }
 
     /// Returns all words, joined.
     pub fn whole(&self) -> String {
-        self.words.join(" ")
+        let first = [Cow::from(&*self.verb)];
+        first.into_iter().chain(self.words()).collect::<Vec<_>>().join(" ")
     }
 
     /// Returns the words after the verb, joined.
-    pub fn all(&self) -> String {
-        self.words().join(" ")
+    pub fn all(&self) -> Cow<'_, str> {
+        if is_joined(self.behind) { self.behind.into() } else { self.words().join(" ").into() }
     }
 
     /// Returns the texts around the first preposition, taking the longest there.
@@ -77,6 +85,17 @@ impl Line<'_> {
         let (at, (length, preposition)) = (0..words.len()).find_map(|at| Some((at, phrase_at(&words[at..])?)))?;
         Some(Parts { direct: words[..at].join(" "), preposition, indirect: words[at + length..].join(" ") })
     }
+}
+
+/// Returns whether a text is its own words, joined by one space.
+fn is_joined(text: &str) -> bool {
+    let is_mark = |sign| matches!(sign, b'"' | b'\\');
+    !text.starts_with(' ') && !text.ends_with(' ') && !text.contains("  ") && !text.bytes().any(is_mark)
+}
+
+/// Returns a word in lower case.
+fn lower(word: Cow<'_, str>) -> Cow<'_, str> {
+    if word.bytes().any(|sign| sign.is_ascii_uppercase()) { word.to_ascii_lowercase().into() } else { word }
 }
 
 /// Returns the longest phrase at the start of the words: its number of words, and the first phrase of its row.
@@ -91,33 +110,32 @@ fn begins(words: &[Cow<'_, str>], phrase: &str) -> bool {
     phrase.split(' ').all(|part| words.next().is_some_and(|word| word.eq_ignore_ascii_case(part)))
 }
 
-/// Returns the words of a text, and where the first one ends.
-fn words_of(text: &str) -> (Vec<Cow<'_, str>>, usize) {
-    if text.bytes().any(|sign| sign == b'"' || sign == b'\\') {
-        return quoted_words_of(text);
+/// Returns the first word of a text, if there is one, and the text behind it and its space.
+fn first_word(text: &str) -> Option<(Cow<'_, str>, &str)> {
+    let text = text.trim_start_matches(' ');
+    let end = text.bytes().position(|sign| matches!(sign, b' ' | b'"' | b'\\'));
+    match end {
+        _ if text.is_empty() => None,
+        None => Some((text.into(), "")),
+        Some(at) if text.as_bytes()[at] == b' ' => Some((text[..at].into(), &text[at + 1..])),
+        Some(_) => Some(marked_word(text)),
     }
-    let words: Vec<Cow<str>> = text.split(' ').filter(|word| !word.is_empty()).map(Cow::from).collect();
-    (words, text.find(' ').unwrap_or(text.len()))
 }
 
-/// Does so for a text with quotes and backslashes.
-fn quoted_words_of(text: &str) -> (Vec<Cow<'_, str>>, usize) {
-    let (mut words, mut end) = (Vec::new(), text.len());
-    let mut word: Option<String> = None;
+/// Does so for a word with quotes and backslashes.
+fn marked_word(text: &str) -> (Cow<'_, str>, &str) {
+    let mut word = String::new();
     let (mut is_quoted, mut is_guarded) = (false, false);
     for (at, sign) in text.char_indices() {
         if is_guarded || !matches!(sign, ' ' | '"' | '\\') || is_quoted && sign == ' ' {
             is_guarded = false;
-            word.get_or_insert_default().push(sign);
-        } else if sign != ' ' {
+            word.push(sign);
+        } else if sign == ' ' {
+            return (word.into(), &text[at + 1..]);
+        } else {
             is_quoted ^= sign == '"';
             is_guarded = sign == '\\';
-            word.get_or_insert_default();
-        } else if let Some(whole) = word.take() {
-            end = if words.is_empty() { at } else { end };
-            words.push(whole.into());
         }
     }
-    words.extend(word.map(Cow::from));
-    (words, end)
+    (word.into(), "")
 }

@@ -5,6 +5,7 @@ use crate::keys::Key;
 use crate::roads::{Map, Passage};
 
 const FULL: usize = 8192;
+const MOST_NAMES: usize = 4;
 const HALL: u32 = 0;
 pub const WIZARD: u32 = 1;
 
@@ -50,8 +51,8 @@ impl Map for World {
 impl World {
     pub fn opening() -> World {
         let mut world = World::default();
-        world.add(vec!["The Hall".to_owned()], WIZARD, Kind::Room);
-        world.add(vec!["Wizard".to_owned()], WIZARD, Kind::Player(HALL));
+        world.add(Names::from(["The Hall".to_owned()]), WIZARD, Kind::Room);
+        world.add(Names::from(["Wizard".to_owned()]), WIZARD, Kind::Player(HALL));
         world
     }
 
@@ -74,6 +75,11 @@ impl World {
 
     pub fn next(&self) -> u32 {
         self.objects.len() as u32
+    }
+
+    /// Returns the number of changes.
+    pub fn version(&self) -> u32 {
+        self.history.len() as u32
     }
 
     pub fn add(&mut self, names: Names, owner: u32, kind: Kind) -> u32 {
@@ -136,8 +142,13 @@ impl World {
 
 /// Returns the names between the commas of a text, or nothing if it is no names text.
 pub fn names_of(text: &str) -> Option<Names> {
-    let names: Names = text.split(',').map(|name| name.trim_matches(' ').to_owned()).collect();
-    (names.len() <= 4 && names.iter().all(|name| is_name(name))).then_some(names)
+    let (mut names, mut count) = ([""; MOST_NAMES], 0);
+    for name in text.split(',') {
+        *names.get_mut(count)? = name.trim_matches(' ');
+        count += 1;
+    }
+    let names = &names[..count];
+    names.iter().all(|name| is_name(name)).then(|| names.iter().map(|name| name.to_string()).collect())
 }
 
 fn is_name(text: &str) -> bool {

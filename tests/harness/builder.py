@@ -185,12 +185,16 @@ def diff_of(old, new):
     return "".join(f"{row}\n" for row in rows) or "the worlds are the same\n"
 
 
-def diffed(old, new, *words):
-    """Returns the result of mud_keep for two histories."""
+def paired(command, old, new, *words):
+    """Returns the result of this command of mud_keep for two histories."""
     with tempfile.NamedTemporaryFile() as file:
         file.write(new)
         file.flush()
-        return kept("diff", old, *words, "-", file.name)
+        return kept(command, old, *words, "-", file.name)
+
+
+def diffed(old, new, *words):
+    return paired("diff", old, new, *words)
 
 
 def world_after(lines):
@@ -215,6 +219,50 @@ def diffs(count, seed, author, text):
         given = diffed(history_of(others), text)
         wanted = diff_of(world_after(others), author.world)
         count(f"diff {seed}: {name}, the other way", given == (status, wanted.encode(), b""), (given, wanted))
+
+
+# ---- chain
+
+
+def versions_anew(lines):
+    """Returns the entries with the versions of their places."""
+    return [f"{version} {line.split(' ', 1)[1]}" for version, line in enumerate(lines, 1)]
+
+
+def continued(lines, others):
+    """Returns the answer for two histories, as docs/KEEPING.md defines it."""
+    end, world = world_after(lines), Kept()
+    for version in range(min(len(lines), len(others)) + 1):
+        if version:
+            world.apply(others[version - 1].rstrip("\n").split(" ", 2)[2])
+        if diff_of(end, world) == "the worlds are the same\n":
+            return 0, f"goes on at version {version}\n".encode(), b""
+    return 1, b"does not go on\n", b""
+
+
+def chains(count, seed, author):
+    """Shortens a prefix of a history, appends the rest, and asks whether the result continues the prefix."""
+    lines, chance = author.lines, random.Random(seed)
+    cut = chance.randrange(1, len(lines))
+    status, shorter, _ = kept("shorten", history_of(lines[:cut]))
+    begun = shorter.decode().splitlines(keepends=True)[1:-1]
+    volume = versions_anew([*begun, *lines[cut:]])
+    count(f"chain {seed}: a shorter beginning", status == 0 and len(begun) <= cut, (status, len(begun), cut))
+    other = Author(seed + 1000)
+    other.write(CHANGES)
+    gone = volume[: len(begun)][: chance.randrange(len(begun) or 1)]
+    cases = (
+        ("the next volume", lines[:cut], volume), ("a beginning alone", lines[:cut], begun),
+        ("a beginning that was cut", lines[:cut], gone), ("a later end", lines, volume), ("itself", lines, lines),
+        ("another world", lines[:cut], other.lines), ("the old volume", volume, lines[:cut]),
+    )
+    for name, old, new in cases:
+        given, wanted = paired("chain", history_of(old), history_of(new)), continued(old, new)
+        count(f"chain {seed}: {name}", given == wanted, (given, wanted))
+    wanted = f"goes on at version {continued(lines[:cut], volume)[1].split()[-1].decode()}\n".encode()
+    torn = history_of(lines[:cut]).rsplit(b"end", 1)[0], history_of(volume).rsplit(b"end", 1)[0] + b"99 1 sa"
+    given = paired("chain", *torn, "--journal")
+    count(f"chain {seed}: journals", given == (0, wanted, b"torn off: 0 bytes\ntorn off: 7 bytes\n"), given)
 
 
 # ---- without
@@ -481,7 +529,7 @@ def refused(count):
     words_alone = (
         ["survey", "--proof", "#2", "-"], ["survey", "--proof", "#2", "-", "Ann", "Wizard"],
         ["survey", "--json", "--proof", "#2", "-", "Ann"], ["without", "-"], ["without", "--by", "Ann", "-", "3"],
-        ["without", "-", "three"], ["without", "--since", "x", "-"], ["diff", "-"], ["survey"],
+        ["without", "-", "three"], ["without", "--since", "x", "-"], ["diff", "-"], ["chain", "-"], ["survey"],
     )
     for words in words_alone:
         status, answer, told = kept(words[0], text, *(words[1:] or ["--nothing"]))
@@ -496,8 +544,15 @@ def refused(count):
     status, answer, told = diffed(text, bad)
     fits = (status, answer) == (2, b"") and re.fullmatch(rb"unreadable: /.*: history change 1\n", told)
     count("diff: a bad new history", bool(fits), told)
-    given = kept("diff", text, "-", "/nowhere/at/all")
-    count("diff: no file", given == (2, b"", b"unreadable: file /nowhere/at/all\n"), given)
+    given = paired("chain", bad, text)
+    count("chain: a bad old history", given == (2, b"", b"unreadable: -: history change 1\n"), given)
+    for word, new in ((b"history change 1", bad), (b"empty file", b""), (b"history without end", text[:-6])):
+        status, answer, told = paired("chain", text, new)
+        fits = (status, answer) == (2, b"") and re.fullmatch(rb"unreadable: /.*: " + word + b"\n", told)
+        count(f"chain: a bad new history: {word.decode()}", bool(fits), told)
+    for command in ("diff", "chain"):
+        given = kept(command, text, "-", "/nowhere/at/all")
+        count(f"{command}: no file", given == (2, b"", b"unreadable: file /nowhere/at/all\n"), given)
 
 
 @part("builder", "mud_keep surveys, compares and leaves changes out of random histories")
@@ -508,6 +563,7 @@ def builder(count):
         text = author.write(CHANGES)
         surveys(count, seed, author, text)
         diffs(count, seed, author, text)
+        chains(count, seed, author)
         kinds |= withouts(count, seed, author, text)
         built.append(lines_of(count, seed, author, text))
     count("lines: most worlds can be built", built.count(0) >= len(built) // 2, built)

@@ -1,6 +1,7 @@
 """The console of a server: `stop`, or the end of its input, ends the server in order. Each session gets that as its
 last line, and the history is printed."""
 import threading
+from functools import partial
 
 from harness.journal import ANN, FIRST, Place, ended
 from harness.parts import part
@@ -116,13 +117,11 @@ def flood(client):
 
 @part("console", "a line `stop` at the console of a server, or its end, ends it in order")
 def console(count):
-    for what, *typed in TYPED:
-        count.tries(f"console: {what}", why_going_on, *typed)
-    rows = [
+    rows = [(what, partial(why_going_on, *typed)) for what, *typed in TYPED]
+    rows += [
         ("nobody ever comes", why_unmoved),
         ("a journal and a total", why_unkept),
         ("a total is reached first", why_waiting),
         ("a client reads nothing", why_held),
     ]
-    for what, why_wrong in rows:
-        count.tries(f"console: {what}", why_wrong)
+    count.tries_at_once((f"console: {what}", why_wrong) for what, why_wrong in rows)

@@ -303,9 +303,9 @@ def count_by_hand(count, machine):
     """Tests a server without systemd: the launcher starts as the journal's owner, and ends it on request."""
     by_hand = re.search(r"`(/usr/local/libexec/\S+ [^`]*)`", text_of("docs/INSTALL.md").replace("\n", " "))[1]
     owner = "setpriv --reuid=seamountcup --regid=seamountcup --clear-groups"
-    machine.sh(f"systemctl stop mud_serve; {owner} {by_hand} >/dev/null 2>&1 & echo $! > /tmp/launcher")
+    machine.sh(f"systemctl stop mud_serve; {owner} {by_hand} >/dev/null 2>&1 & echo $! > launcher")
     count_played(count, "tarball: by hand", machine)
-    wait = "kill $(cat /tmp/launcher)\nwhile pidof mud_serve; do sleep 0.1; done"
+    wait = "kill $(cat launcher)\nwhile pidof mud_serve; do sleep 0.1; done"
     count_told(count, "tarball: by hand", machine, wait)
     machine.sh("systemctl start mud_serve")
 

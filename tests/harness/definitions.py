@@ -29,6 +29,7 @@ BEGIN, END = "<!-- {}, written by `tests/run definitions --write`. -->", "<!-- T
 # state it; without such files, everything public in the crate.
 CLAIMS = [
     ("the theorems about the guide", "mud_hall", {"src/laws.rt": ["guide", "walk"]}),
+    ("all three theorems and their laws", "mud_theorems", {}),
     ("the verdict of the checker", "mud_checker", {"src/outcome.rt": ["verdict"]}),
     ("a script, from bytes to bytes", "mud_session", {"src/scripting.rt": ["script"], "src/laws.rt": ["runs"]}),
     ("the journal", "mud_journal", {}),

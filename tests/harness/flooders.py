@@ -1,17 +1,17 @@
 """Flooders: clients that send `say` without end, from one address and from several, while eight players talk. By the
-default limits they delay the players' replies by no more than BOUND, and make at most SHARE of the changes of a busy
-world. The addresses are made on the loopback interface, so the part wants root and `ip`."""
+default limits they delay the players' replies by no more than BOUND. A flooder's burst goes at once. From then on all
+flooders of an address make changes at the rate of their limits, which is measured apart from the burst, and is at most
+SHARE of the changes of a busy world. The addresses are in a network of the part's own, so it wants root and `ip`."""
 import contextlib
 import multiprocessing
 import os
-import shutil
-import socket
 import statistics
-import subprocess
 import tempfile
 import threading
 import time
 
+from harness.limits import limits_by_page
+from harness.networks import dialled, has_networks, within
 from harness.parts import Skipped, part
 from harness.programs import program
 from harness.server import SECONDS, Server
@@ -20,44 +20,33 @@ from harness.server import SECONDS, Server
 OURS = "198.51.100.1"
 THEIRS, OTHERS = ([f"198.51.100.{at}" for at in range(first, first + 8)] for first in (2, 10))
 PLAYERS, REPLIES, PAUSE = 8, 100, 0.2
-# The longest delay of the 99th of 100 replies, and the greatest share of a busy world's changes: 64 players, each with
-# a change a second.
-BOUND, SHARE, BUSY_CHANGES = 0.005, 0.01, 64
+# The longest delay of the 99th of 100 replies.
+BOUND = 0.005
+# The changes of a busy world in a second: 64 players, each with a change a second.
+BUSY_CHANGES = 64
+# The greatest part of them that the flooders of one address make.
+SHARE = 0.01
 FLOODERS = 8
 NO_SHARED_LIMITS = ["--address-lines-per-second", "0", "--address-changes-per-minute", "0"]
-
-
-@contextlib.contextmanager
-def addresses():
-    """Yields once the loopback interface has the addresses."""
-    all_of_them = (OURS, *THEIRS, *OTHERS)
-    words = [["ip", "address", what, f"{one}/32", "dev", "lo"] for what in ("add", "del") for one in all_of_them]
-    half = len(words) // 2
-    try:
-        for command in words[:half]:
-            subprocess.run(command, check=True, capture_output=True)
-        yield
-    finally:
-        for command in words[half:]:
-            subprocess.run(command, check=False, capture_output=True)
+# The limits of changes: the rate a minute and the burst, of a session and of an address.
+SESSION, ADDRESS = (limits_by_page()[f"{whose}changes-per-minute"] for whose in ("", "address-"))
 
 
 def connected(port, source, name):
     """Returns a connection from an address, whose player has this name."""
-    one = socket.create_connection((OURS, port), timeout=SECONDS, source_address=(source, 0))
+    one = dialled(OURS, port, source)
     one.sendall(b"connect %s\r\n" % name)
     return one
 
 
-def flood(port, source, name, end):
+def flood(port, source, name):
     """Sends changes as fast as the server takes them, and reads everything."""
     one = connected(port, source, name)
     reading = threading.Thread(target=lambda: [None for _ in iter(lambda: one.recv(65_536), b"")], daemon=True)
     reading.start()
-    while time.monotonic() < end:
+    while True:
         with contextlib.suppress(TimeoutError):
             one.sendall(b"say flood\r\n" * 100)
-    os._exit(0)
 
 
 def talk(port, at, delays):
@@ -92,41 +81,66 @@ def changes_of(journal):
         return file.read().count(b" flood\n")
 
 
+def burst_of(sources):
+    """Returns the number of changes that these flooders make at once: each has a burst, and so has each address."""
+    return sum(min(SESSION[1] * sources.count(one), ADDRESS[1]) for one in set(sources))
+
+
+def rate_of(sources):
+    """Returns the number of changes in a second that the limits then allow these flooders."""
+    return sum(min(SESSION[0] * sources.count(one), ADDRESS[0]) for one in set(sources)) / 60
+
+
+@contextlib.contextmanager
+def flooding(port, sources):
+    """Has these flooders send while the body runs."""
+    how = [(port, source, b"Flooder%d" % at) for at, source in enumerate(sources)]
+    flooders = [multiprocessing.Process(target=flood, args=words) for words in how]
+    for flooder in flooders:
+        flooder.start()
+    try:
+        yield
+    finally:
+        for flooder in flooders:
+            flooder.kill()
+            flooder.join()
+
+
 def measured(sources, limited):
-    """Returns the delay of the players while these flooders send, and the flooders' changes in a second."""
+    """Returns the delay of the players while these flooders send, the changes of the flooders before that, and those
+    in a second meanwhile. Under limits the players begin once the flooders have made most of their burst.
+    """
     with tempfile.TemporaryDirectory() as folder:
         journal = f"{folder}/journal"
         words = ["--address", OURS, "--journal", journal, *([] if limited else NO_SHARED_LIMITS)]
-        with Server(program("mud_serve"), words, limited=limited) as server:
-            began = time.monotonic()
-            end = began + 600
-            how = [(server.port, source, b"Flooder%d" % at, end) for at, source in enumerate(sources)]
-            flooders = [multiprocessing.Process(target=flood, args=words) for words in how]
-            for flooder in flooders:
-                flooder.start()
+        with Server(program("mud_serve"), words, limited=limited) as server, flooding(server.port, sources):
+            end = time.monotonic() + 6 * SECONDS
+            while limited and changes_of(journal) < burst_of(sources) - len(sources) and time.monotonic() < end:
+                time.sleep(0.1)
+            began, before = time.monotonic(), changes_of(journal)
             delay = delay_of(server.port)
-            for flooder in flooders:
-                flooder.kill()
-                flooder.join()
-            return delay, changes_of(journal), time.monotonic() - began
+            return delay, before, (changes_of(journal) - before) / (time.monotonic() - began)
+
+
+def play(count):
+    """Counts what the flooders do, in a network with the addresses."""
+    quiet, _, _ = measured([], True)
+    rows = [("one", THEIRS[:1]), ("eight of one address", THEIRS[:1] * FLOODERS), ("eight of eight", THEIRS)]
+    for what, sources in rows:
+        delay, burst, rate = measured(sources, True)
+        more = delay - quiet
+        print(f"flooders: {what}: {more * 1000:+.1f} ms, {burst} changes at once, then {rate:.2f} a second, which is "
+              f"{rate / BUSY_CHANGES:.1%} of a busy world's", flush=True)
+        count(f"flooders: {what}: delay", more <= BOUND, f"{quiet * 1000:.1f} ms, then {delay * 1000:.1f} ms")
+        count(f"flooders: {what}: burst", burst <= burst_of(sources) + len(sources), f"{burst} changes at once")
+        most = min(1.1 * rate_of(sources) + 0.05, SHARE * BUSY_CHANGES * len(set(sources)))
+        count(f"flooders: {what}: share", rate <= most, f"{rate:.2f} changes a second")
+    delay, _, rate = measured(THEIRS[:1] * FLOODERS, False)
+    print(f"flooders: without limits: {(delay - quiet) * 1000:+.1f} ms, {rate:.0f} changes a second")
 
 
 @part("flooders", "clients that send changes without end delay no player, and fill no history", on_demand=True)
 def flooders_part(count):
-    if os.geteuid() != 0 or not shutil.which("ip"):
-        raise Skipped("it wants root, and ip")
-    with addresses():
-        quiet, _, _ = measured([], True)
-        rows = [("one", THEIRS[:1]), ("eight of one address", THEIRS[:1] * FLOODERS), ("eight of eight", THEIRS)]
-        for what, sources in rows:
-            delay, changes, seconds = measured(sources, True)
-            more = delay - quiet
-            print(f"flooders: {what}: {more * 1000:+.1f} ms, {changes} changes in {seconds:.0f} s", flush=True)
-            count(f"flooders: {what}: delay", more <= BOUND, f"{quiet * 1000:.1f} ms, then {delay * 1000:.1f} ms")
-            # beyond the burst of each address
-            bursts = 200 if len(sources) == 1 else 800 if len(set(sources)) == 1 else 200 * len(sources)
-            rate = max(0, changes - bursts) / seconds
-            bound = SHARE * BUSY_CHANGES * len(set(sources)) * (4 if len(sources) > len(set(sources)) else 1)
-            count(f"flooders: {what}: share", rate <= bound, f"{rate:.2f} changes a second beyond {bursts}")
-        delay, changes, seconds = measured(THEIRS[:1] * FLOODERS, False)
-        print(f"flooders: without limits: {(delay - quiet) * 1000:+.1f} ms, {changes} changes in {seconds:.0f} s")
+    if not has_networks():
+        raise Skipped("it wants root, ip and unshare")
+    within([OURS, *THEIRS, *OTHERS], play, count)

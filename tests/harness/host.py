@@ -7,7 +7,7 @@ import http.client
 import json
 import os
 import re
-import resource
+import select
 import shutil
 import socket
 import stat
@@ -21,7 +21,9 @@ from harness.hosted import SECONDS, Console, Hosted, come, lines_until, mute
 from harness.inputs import read
 from harness.journal import FIRST, ended
 from harness.log_lines import log_forms, strange
+from harness.networks import FOUR, FOUR_TOO, HERE, HERE_TOO, THERE, dialled, first_line, in_network
 from harness.parts import part
+from harness.preload import library
 from harness.programs import TOP, program
 from harness.server import HOST, Client, Server
 from harness.web import WebServer
@@ -34,6 +36,11 @@ NO_ORDER = "error no such order: help tells them"
 WORDS = "status sessions end ban unban bans tell stop stay reopen help".split()
 NAMES = """version since health changes changes_most synced objects objects_most sessions sessions_most players begun
 refused_full refused_address refused_banned refused_often refused_request lines made waited""".split()
+
+
+# A shell that starts a program whose files have at most 4,096 bytes. Python ignores the signal of that limit, and so
+# does the program.
+LIMITED_FILES = ["sh", "-c", 'ulimit -f 8 && exec "$@"', "sh"]
 
 
 # ---- orders
@@ -96,8 +103,8 @@ def why_sessions():
         ports = [client.socket.getsockname()[1] for client in (ann, bob)]
         time.sleep(1.2)
         given = console.ask("sessions")
-        wanted = [rf'session 1 telnet {HOST}:{ports[0]} since {TIME} idle [12] #2 "Ann"',
-                  rf'session 2 web {HOST}:{ports[1]} since {TIME} idle [12] #3 "Bob"', "ok"]
+        wanted = [rf'session 1 telnet {HOST}:{ports[0]} since {TIME} idle [1-9] #2 "Ann"',
+                  rf'session 2 web {HOST}:{ports[1]} since {TIME} idle [1-9] #3 "Bob"', "ok"]
         is_right = len(given) == 3 and all(map(re.fullmatch, wanted, given))
         begun = [f"begin session={at} from={HOST}:{ports[at - 1]} by={by}" for at, by in ((1, "telnet"), (2, "web"))]
         is_logged = is_soon(lambda: [line for line in hosted.log() if line.startswith("begin ")] == begun)
@@ -170,10 +177,26 @@ def why_tell_texts():
         return "" if (given, read, refused) == right else f"{given}, {read}, {refused}"
 
 
+def stuck(port, console, lines=300):
+    """Returns a client that reads nothing, once the server waits to send it the long answers to some of its lines."""
+    client, says, before = Client(port), [b"say " + b"x" * 800] * 50, -1
+    client.send_all([b"connect Wizard", *says, *[b"@history"] * lines])
+
+    def is_stuck():
+        nonlocal before
+        time.sleep(0.3)
+        before, answered = int(console.status()["lines"]), before
+        return answered == before and len(says) < answered < len(says) + lines
+
+    if not is_soon(is_stuck, SECONDS):
+        raise AssertionError("all its lines are answered")
+    return client
+
+
 def why_tell_kept():
     """A player who reads nothing gets the latest 64 announcements later, in order."""
     with Hosted() as hosted, hosted.console() as console:
-        client = mute(hosted.server.port)
+        client = stuck(hosted.server.port, console)
         for at in range(100):
             console.ask(f"tell number {at}")
         came = b""
@@ -249,6 +272,31 @@ def why_bans():
         return "" if is_right else f"{given}, {read}, {refused}, {bans}, {kept!r}, {mode:o}, {left!r}, {counted}"
 
 
+def why_bans_of_both():
+    """A ban of an IPv6 network ends its sessions and no others, and one of an IPv4 address holds at the same port."""
+    with Hosted("--address", "::") as hosted, hosted.console() as console:
+        port = hosted.server.port
+        sources = [HERE, HERE_TOO, THERE, FOUR, FOUR_TOO]
+        guests = [dialled(FOUR if source in (FOUR, FOUR_TOO) else HERE, port, source) for source in sources]
+        with contextlib.ExitStack() as open_ones:
+            for one in guests:
+                open_ones.enter_context(one)
+                one.recv(100)
+            peers = [f"{source if source in (FOUR, FOUR_TOO) else f'[{source}]'}:{one.getsockname()[1]}"
+                     for source, one in zip(sources, guests)]
+            listed = [line.split()[3] for line in console.ask("sessions")[:-1]]
+            given = console.ask("ban 2001:db8:0:1::/64"), console.ask(f"ban {FOUR}")
+            ended = [guests[at].recv(100) for at in (0, 1, 3)]
+            for at in (2, 4):
+                guests[at].sendall(b"@version\r\n")
+            goes_on = [guests[at].recv(100)[:3] for at in (2, 4)]
+        banned = [first_line(HERE, port, HERE_TOO), first_line(FOUR, port, FOUR)]
+        free = [first_line(HERE, port, THERE)[:7], first_line(FOUR, port, FOUR_TOO)[:7]]
+        result = listed == peers, [*given], ended, goes_on, banned, free
+        right = True, [["ok"]] * 2, [b"(ended by the host)\r\n"] * 3, [b"[0]"] * 2, [b""] * 2, [b"Welcome"] * 2
+        return "" if result == right else f"{listed}, {result}"
+
+
 def why_bans_read():
     """A server reads the file of its bans, as an editor may leave it, and names a wrong line."""
     with tempfile.TemporaryDirectory() as folder:
@@ -267,6 +315,43 @@ def why_bans_read():
         right = None, b"ban 192.0.2.0/24\nban 127.0.0.0/8\nban ::1\nok\n", 3
         told = b"mud_serve: cannot read the bans: line 2 is no address or network\n"
         return "" if ((refused, given, status), said) == (right, told) else f"{refused}, {given}, {status}, {said}"
+
+
+def why_bans_most():
+    """There are at most 4,096 bans, at the console and in the file, and the file is no longer than they can be."""
+    lines, given = [f"10.{at // 256}.{at % 256}.0/24\n" for at in range(4_097)], []
+    with tempfile.TemporaryDirectory() as folder:
+        path = os.path.join(folder, "bans")
+        for text in ("".join(lines[:-1]), "".join(lines), "\n" * 2_000_000):
+            with open(path, "w") as file:
+                file.write(text)
+            with Server(program("mud_serve"), ["--bans", path], console=True) as server:
+                if server.port:
+                    server.type(b"ban 192.0.2.1\nban 10.0.0.0/24\nunban 10.0.0.0/24\nban 192.0.2.1\n")
+                    is_soon(lambda: server.said().count(b"\n") == 4)
+                    given.append(server.said())
+                    with open(path) as file:
+                        given.append(file.read() == "".join([*lines[1:-1], "192.0.2.1\n"]))
+                else:
+                    given.append((server.process.wait(timeout=SECONDS), server.said()))
+    told = b"mud_serve: cannot read the bans: %s\n"
+    right = [b"error too many bans\nok\nok\nok\n", True, (3, told % b"too many bans"), (3, told % b"too long")]
+    return "" if given == right else f"{given}"
+
+
+def why_bans_unwritten():
+    """A ban that can't be written to its file holds until the end, and the console says so."""
+    with tempfile.TemporaryDirectory() as folder:
+        path = os.path.join(folder, "there", "bans")
+        os.mkdir(os.path.dirname(path))
+        control = os.path.join(folder, "control")
+        words = ["--bans", path, "--control", control]
+        with Server(program("mud_serve"), words) as server, Console(control) as console:
+            os.rmdir(os.path.dirname(path))
+            given = console.ask("ban 127.0.0.1")
+            bans, line = console.ask("bans"), Client(server.port).line()
+        is_told = given[0].startswith(f"error it holds until the end, but {path} can't be written: ")
+        return "" if is_told and (bans, line) == (["ban 127.0.0.1", "ok"], None) else f"{given}, {bans}, {line}"
 
 
 def why_bans_kept():
@@ -337,6 +422,25 @@ def why_consoles():
         return "" if is_right and status == 0 else f"{given[0]}, {status}"
 
 
+def why_hour():
+    """A console that is silent for an hour is closed, and no sooner; one with an order now and then stays. A library
+    makes the hour two seconds.
+    """
+    environment = {"LD_PRELOAD": library("short_hour"), "HOUR_MILLISECONDS": "2000"}
+    with Hosted(environment=environment) as hosted, hosted.console() as lively, hosted.console() as silent:
+        given, began = [silent.ask("bans")], time.monotonic()
+        silent.socket.sendall(b"ba")
+        while not select.select([silent.socket], [], [], 0.2)[0] and time.monotonic() < began + SECONDS:
+            given.append(lively.ask("bans"))
+        took, end = time.monotonic() - began, silent.socket.recv(100)
+        given += [lively.ask("bans")]
+        with hosted.console() as late:
+            given.append(late.ask("bans"))
+        status, _ = hosted.stop()
+        is_right = len(given) > 6 and given == [["ok"]] * len(given) and (end, status) == (b"", 0) and 1.9 < took < 4
+        return "" if is_right else f"{given}, {end}, {took:.1f} s, {status}"
+
+
 # ---- health and metrics
 
 def metric_of(text, name):
@@ -359,10 +463,6 @@ def why_health():
 
 def why_unwell():
     """While sessions end, health names a stop, or the fault of a journal."""
-
-    def limit():
-        resource.setrlimit(resource.RLIMIT_FSIZE, (4_000, 4_000))
-
     with Hosted() as hosted, hosted.console() as console:
         client = mute(hosted.server.port)
         console.ask("stop")
@@ -370,7 +470,7 @@ def why_unwell():
         client.close()
     with tempfile.TemporaryDirectory() as folder:
         words = ["--journal", os.path.join(folder, "journal")]
-        with Hosted(*words, preexec_fn=limit, restore_signals=False) as hosted:
+        with Hosted(*words, by=LIMITED_FILES, restore_signals=False) as hosted:
             client, ann = mute(hosted.server.port), come(hosted.server.port, b"Ann")
             ann.send_all([b"say " + b"x" * 800] * 6)
             last = lines_until(ann, b"(journal fault)")[-1]
@@ -689,10 +789,14 @@ ROWS = [
     ("a stop is told in time", why_stop_told),
     ("stop in, and stay", why_stop_in),
     ("bans", why_bans),
+    ("bans of both families", in_network(why_bans_of_both)),
     ("a file of bans", why_bans_read),
+    ("the most bans", why_bans_most),
+    ("bans that can't be written", why_bans_unwritten),
     ("a kill while bans are written", why_bans_kept),
     ("the control socket", why_socket),
     ("many consoles", why_consoles),
+    ("a console that is silent for an hour", why_hour),
     ("health", why_health),
     ("health at the end", why_unwell),
     ("an address of its own", why_there),
@@ -717,5 +821,4 @@ ROWS = [
 
 @part("host", "the host's part of a server: console, bans, metrics, log and settings")
 def host(count):
-    for what, why_wrong in ROWS:
-        count.tries(f"host: {what}", why_wrong)
+    count.tries_at_once((f"host: {what}", why_wrong) for what, why_wrong in ROWS)

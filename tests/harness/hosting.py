@@ -20,7 +20,7 @@ NAME = "mud.example.org"
 ORIGIN = f"https://{NAME}"
 # The exposure level of a unit by systemd-analyze: up to 10, which means no protection at all.
 EXPOSURE, MOST_EXPOSURE = re.compile(r"exposure level for \S+: ([\d.]+)"), 2
-MOST_SESSIONS = 4
+MOST_SESSIONS, MOST_VISITS = 4, 60
 # The settings by which nginx runs alone, in a folder.
 NGINX = """daemon off;
 pid FOLDER/pid;
@@ -179,9 +179,18 @@ def redirected(proxy):
     return answer.split(b" ")[1], found and found[1].decode()
 
 
+def visited(proxy):
+    """Returns the status of the page's answer."""
+    context = ssl.create_default_context(cafile=f"{proxy.folder}/chain.pem")
+    with socket.create_connection((HOST, proxy.secure), timeout=SECONDS) as plain:
+        with context.wrap_socket(plain, server_hostname=NAME) as secure:
+            secure.sendall(f"GET / HTTP/1.1\r\nHost: {NAME}\r\nConnection: close\r\n\r\n".encode())
+            return secure.recv(100).split(b" ")[1]
+
+
 def play_through(count, kind, proxy):
-    """Counts that one client plays, a page of another origin is refused, and so is one session beyond the limit of an
-    address."""
+    """Counts that one client plays, and a page of another origin is refused. So are one session beyond the limit of an
+    address, and visits beyond its limit."""
     player = proxy.dial(ORIGIN)
     said = [player.line()]
     for line in (b"connect Ann", b"say Hello"):
@@ -194,6 +203,8 @@ def play_through(count, kind, proxy):
     count(f"{kind}: one session more", found == 429, found)
     for client in (player, *others):
         client.close()
+    answers = [visited(proxy) for _ in range(MOST_VISITS + 1)]
+    count(f"{kind}: visits without end", (answers[0], answers[-1]) == (b"200", b"429"), answers)
     count(f"{kind}: from port 80", redirected(proxy) == (b"301", f"{ORIGIN}/?a=b"), redirected(proxy))
 
 

@@ -192,5 +192,4 @@ def rows():
 
 @part("signals", "a server that the launcher or ./run started ends in order at each signal")
 def signals(count):
-    for what, why_wrong in rows():
-        count.tries(f"signals: {what}", why_wrong)
+    count.tries_at_once((f"signals: {what}", why_wrong) for what, why_wrong in rows())

@@ -5,6 +5,7 @@ import signal
 import subprocess
 import tempfile
 import time
+from functools import partial
 
 from harness.console import STOPS, last_line, visited
 from harness.journal import ANN, ended
@@ -18,28 +19,12 @@ SHELLS = {"dash": ["dash"], "bash": ["bash", "--posix"], "busybox": ["busybox", 
 STOP_SECONDS = 3
 
 
-def heed_interrupts():
-    """Gives SIGINT its usual effect: a job in the background ignores it, and a shell cannot trap what it ignores."""
-    signal.signal(signal.SIGINT, signal.SIG_DFL)
-
-
 class Launched(Server):
     """A server that the launcher runs, by a shell, with its pipe in a folder."""
 
     def __init__(self, shell, folder, words=(), before=()):
-        self.folder = folder
-        self.shell = [*before, *shell, LAUNCH]
-        how = {"start_new_session": True, "preexec_fn": heed_interrupts}
-        super().__init__(self.written(), words, environment={"RUNTIME_DIRECTORY": folder}, **how)
-
-    def written(self):
-        """Writes a script that runs the launcher: a `Server` is one word."""
-        path = f"{self.folder}/launched"
-        with open(path, "w") as file:
-            words = " ".join(f"'{word}'" for word in [*self.shell, program("mud_serve")])
-            file.write(f'#!/bin/sh\nexec {words} "$@"\n')
-        os.chmod(path, 0o755)
-        return path
+        how = {"by": [*before, *shell, LAUNCH], "start_new_session": True}
+        super().__init__(program("mud_serve"), words, environment={"RUNTIME_DIRECTORY": folder}, **how)
 
 
 def why_not_stopped(shell, number, before=(), times=1):
@@ -87,21 +72,20 @@ def why_not_refused(shell):
         return "" if (status, left) == (2, False) else f"{status} {left}"
 
 
-def launches(count, name, shell):
-    """Counts the tests in one shell."""
+def rows(name, shell):
+    """Yields the tests in one shell: the name of each, and its function with its words."""
     for number in (signal.SIGTERM, signal.SIGINT):
-        count.tries(f"launcher: {number.name} in {name}", why_not_stopped, shell, number)
-    count.tries(f"launcher: SIGTERM three times in {name}", why_not_stopped, shell, signal.SIGTERM, times=3)
+        yield f"{number.name} in {name}", partial(why_not_stopped, shell, number)
+    yield f"SIGTERM three times in {name}", partial(why_not_stopped, shell, signal.SIGTERM, times=3)
     alone = ["unshare", "--pid", "--fork", "--kill-child"]
     if os.geteuid() == 0 and shutil.which("unshare"):
-        count.tries(f"launcher: as process 1 in {name}", why_not_stopped, shell, signal.SIGTERM, before=alone)
-    count.tries(f"launcher: its pipe in {name}", why_not_by_pipe, shell)
-    count.tries(f"launcher: the server is killed in {name}", why_not_killed, shell)
-    count.tries(f"launcher: bad words in {name}", why_not_refused, shell)
+        yield f"as process 1 in {name}", partial(why_not_stopped, shell, signal.SIGTERM, before=alone)
+    yield f"its pipe in {name}", partial(why_not_by_pipe, shell)
+    yield f"the server is killed in {name}", partial(why_not_killed, shell)
+    yield f"bad words in {name}", partial(why_not_refused, shell)
 
 
 @part("launcher", "a signal to the launcher of packages ends a server in order, in each shell that is here")
 def launcher(count):
-    for name, shell in SHELLS.items():
-        if shutil.which(shell[0]):
-            launches(count, name, shell)
+    shells = [(name, shell) for name, shell in SHELLS.items() if shutil.which(shell[0])]
+    count.tries_at_once((f"launcher: {what}", why_not) for one in shells for what, why_not in rows(*one))

@@ -8,17 +8,20 @@ import subprocess
 import tempfile
 import threading
 import time
+from concurrent.futures import ThreadPoolExecutor
 
 from harness.guests import is_soon
 from harness.hosted import SECONDS, Hosted, come, lines_until
 from harness.inputs import read
+from harness.networks import FOUR, FOUR_TOO, HERE, HERE_TOO, THERE, dialled, first_line, in_network
 from harness.parts import part
 from harness.programs import TOP, program
 from harness.server import HOST
 from harness.web import WebServer
 
-# The entries of a history that takes some milliseconds to print.
-LONG = 20_000
+# The entries of a history that takes some milliseconds to print, and the number of questions for it. At the rate of
+# that test their answers have to take this many seconds.
+LONG, QUESTIONS, SHARES = 20_000, 20, 12
 # A row of the page's table: an option, its default and its burst.
 LIMIT = re.compile(r"^\| `--([a-z-]+)` \| ([\d,]+) \| ([\d,]+) \|", re.M)
 
@@ -84,6 +87,16 @@ def why_web_paced():
         return "" if right else f"{len(said)} of 130, {took:.1f} s, heard after {heard}"
 
 
+def seconds_of_answers(to, port, source, count):
+    """Returns the seconds until this many lines from an address are answered, or all but the last of them."""
+    with dialled(to, port, source, seconds=60) as one:
+        began, came = time.monotonic(), b""
+        one.sendall(b"look\r\n" * count)
+        while came.count(b"understand") < count:
+            came += one.recv(65_536)
+        return time.monotonic() - began
+
+
 def why_addressed():
     """The sessions of an address share its limits, and those of a loopback address have none."""
     words = ["--address", "0.0.0.0", "--lines-per-second", "0", "--changes-per-minute", "0"]
@@ -91,27 +104,44 @@ def why_addressed():
     outside = outside_address()
     if outside is None:
         return ""
-    with Hosted(*words, limited=True) as hosted:
+    with Hosted(*words, limited=True) as hosted, ThreadPoolExecutor() as threads:
         port = hosted.server.port
-
-        def ask(source, count):
-            with socket.create_connection((outside if source == outside else HOST, port), timeout=60) as one:
-                began = time.monotonic()
-                one.sendall(b"look\r\n" * count)
-                came = b""
-                while came.count(b"understand") < count:
-                    came += one.recv(65_536)
-                return time.monotonic() - began
-
-        alone, both = ask(outside, 40), []
-        threads = [threading.Thread(target=lambda: both.append(ask(outside, 20))) for _ in range(2)]
-        for thread in threads:
-            thread.start()
-        near = ask(HOST, 500)
-        for thread in threads:
-            thread.join()
-        right = alone < 2 and len(both) == 2 and max(both) > 3 and near < 3
+        alone = seconds_of_answers(outside, port, outside, 40)
+        both = [threads.submit(seconds_of_answers, outside, port, outside, 20) for _ in range(2)]
+        near = seconds_of_answers(HOST, port, HOST, 500)
+        both = [one.result() for one in both]
+        right = alone < 2 and max(both) > 3 and near < 3
         return "" if right else f"alone {alone:.1f} s, two {both}, near {near:.1f} s"
+
+
+def why_network_lines():
+    """The sessions of two addresses of one IPv6 network share their limits. Those of another network do not."""
+    words = ["--address", "::", "--lines-per-second", "0", "--changes-per-minute", "0"]
+    words += ["--address-lines-per-second", "5", "--address-changes-per-minute", "0"]
+    with Hosted(*words, limited=True) as hosted, ThreadPoolExecutor() as threads:
+        port = hosted.server.port
+        alone = seconds_of_answers(HERE, port, HERE, 40)
+        other = threads.submit(seconds_of_answers, HERE, port, HERE_TOO, 30)
+        apart = [seconds_of_answers(to, port, source, 40) for to, source in
+                 ((HERE, THERE), (FOUR, FOUR), (FOUR, FOUR_TOO))]
+        shared = other.result()
+        right = alone < 2 and shared > 2 and max(apart) < 2
+        return "" if right else f"alone {alone:.1f} s, with another {shared:.1f} s, apart {apart}"
+
+
+def why_network_connects():
+    """The connections of one IPv6 network count together. Another network, and each IPv4 address, has its own count,
+    and the loopback addresses have none.
+    """
+    with Hosted("--address", "::", "--connects-per-minute", "3") as hosted, hosted.console() as console:
+        port = hosted.server.port
+        tries = [(HERE, HERE)] * 2 + [(HERE, HERE_TOO)] * 2 + [(HERE, THERE)] * 3 + [(FOUR, FOUR)] * 3
+        tries += [(FOUR, FOUR_TOO)] * 3 + [("::1", "::1")] * 5 + [(HOST, HOST)] * 5
+        greeted = [bool(first_line(to, port, source)) for to, source in tries]
+        counted = console.status()["refused_often"]
+        logged = is_soon(lambda: f"refused from={HERE_TOO} why=often count=1" in hosted.log())
+        right = [at != 3 for at in range(len(tries))], "1", True
+        return "" if (greeted, counted, logged) == right else f"{greeted}, {counted}, {hosted.log()}"
 
 
 def outside_address():
@@ -175,20 +205,42 @@ def why_stopped():
         return "" if status == 0 and stopped < 3 else f"{ended:.1f}, {told:.1f}, {stopped:.1f} s, status {status}"
 
 
+def long_history(folder):
+    """Writes a history in this folder that takes some milliseconds to print. Returns its path."""
+    says = (f'{at} 1 say #2 {"x" * 200}\n' for at in range(2, LONG + 1))
+    with open(f"{folder}/long", "w") as file:
+        file.writelines(['mud history 2\n1 1 player #2 "Ann"\n', *says, f"end {LONG}\n"])
+    return file.name
+
+
+def asked(port):
+    """Asks for the history QUESTIONS times. Returns the seconds until all is answered."""
+    client, last = come(port, b"Ann"), b""
+    client.socket.settimeout(60)
+    began = time.monotonic()
+    client.send_all([b"@history"] * QUESTIONS + [b"xyzzy"])
+    while b"understand" not in last:
+        last = last[-100:] + client.socket.recv(1_000_000)
+    client.close()
+    return time.monotonic() - began
+
+
 def why_worked():
-    """A session whose questions have taken too much time waits, as the log says; without the limit it does not."""
-    waited = []
+    """The questions of a session take the share of the time that its limit allows, and the log says that it waits."""
     with tempfile.TemporaryDirectory() as folder:
-        path = f"{folder}/long"
-        command = [program("mud_serve"), "script", "--history", path]
-        subprocess.run(command, input=b"say hello\n" * LONG, stdout=subprocess.DEVNULL, check=True)
-        for rate, patience in (("1", SECONDS), ("0", 2)):
-            with Hosted("--load", path, "--work-per-second", rate, limited=True) as hosted, hosted.console() as console:
-                ann = come(hosted.server.port, b"Ann")
-                ann.send_all([b"@history"] * 4)
-                waited.append(is_soon(lambda: console.status()["waited"] != "0", seconds=patience))
-                waited.append(any(line.startswith("slow session=1 ") for line in hosted.log()))
-    return "" if waited == [True, True, False, False] else f"{waited}"
+        words = ["--load", long_history(folder), "--lines-per-second", "0", "--work-per-second"]
+        with Hosted(*words, "0", limited=True) as hosted, hosted.console() as console:
+            free = asked(hosted.server.port)
+            unlimited = console.status()["waited"], [line for line in hosted.log() if "slow" in line]
+        # the milliseconds of work in a second; four seconds' work may be done at once
+        rate = max(1, round(1_000 * free / SHARES))
+        with Hosted(*words, str(rate), limited=True) as hosted, hosted.console() as console:
+            took = asked(hosted.server.port)
+            waited = console.status()["waited"]
+            is_told = any(line.startswith("slow session=1 ") for line in hosted.log())
+        # a part of the free time goes into sending, and a busy machine makes the work longer
+        right = unlimited == ("0", []) and is_told and int(waited) > 1 and took - free > SHARES / 10
+        return "" if right else f"{unlimited}, {free:.1f} s, at {rate} a second {took:.1f} s, waited {waited}"
 
 
 def why_address_changed():
@@ -210,15 +262,51 @@ def why_address_changed():
         return "" if waits and made in ("30", "31") else f"{waits}, {made}, {console.status()}"
 
 
+def why_address_paced():
+    """Once the burst of an address is used, its sessions together make changes at its rate, however many they are."""
+    words = ["--address", "::", "--lines-per-second", "0", "--changes-per-minute", "0"]
+    words += ["--address-lines-per-second", "0", "--address-changes-per-minute", "60"]
+    with Hosted(*words, limited=True) as hosted, hosted.console() as console:
+        players = [dialled(HERE, hosted.server.port, source) for source in [HERE, HERE_TOO] * 10]
+        for at, player in enumerate(players):
+            player.sendall(b"connect P%d\r\n" % at + b"say on\r\n" * 200)
+        made, began = lambda: int(console.status()["made"]), time.monotonic()
+        at_once = is_soon(lambda: made() >= 600, SECONDS)
+        time.sleep(8)
+        later, most = made(), 600 + len(players) + time.monotonic() - began
+        for player in players:
+            player.close()
+        return "" if at_once and later <= most else f"{later} changes, and at most {most:.0f} by the limit"
+
+
+def why_network_sessions():
+    """`--per-address` counts the sessions of one IPv6 network together, and those of another apart."""
+    with Hosted("--address", "::", "--per-address", "2") as hosted:
+        port, tries = hosted.server.port, [(HERE, HERE), (HERE, HERE_TOO), (HERE, HERE_TOO), (HERE, THERE)]
+        tries += [(FOUR, FOUR), (FOUR, FOUR), (FOUR, FOUR), (FOUR, FOUR_TOO)]
+        guests = [dialled(to, port, source) for to, source in tries]
+        given = [guest.recv(100) for guest in guests]
+        for guest in guests:
+            guest.close()
+        right = [b"(too many sessions)" if at in (2, 6) else b"Welcome" for at in range(len(tries))]
+        return "" if all(map(bytes.startswith, given, right)) else f"{given}"
+
+
+def limits_by_page():
+    """Returns the default of each limit by docs/HOSTING.md: its rate and its burst."""
+    rows = LIMIT.findall(read(f"{TOP}/docs/HOSTING.md").decode())
+    return {name: tuple(int(number.replace(",", "")) for number in numbers) for name, *numbers in rows}
+
+
 def why_defaults():
     """The page has the default of each limit, and its burst by the rule that it follows."""
-    rows = {name: (rate, burst) for name, rate, burst in LIMIT.findall(read(f"{TOP}/docs/HOSTING.md").decode())}
+    rows = limits_by_page()
     command = [program("mud_serve"), "listen", "--port", "0", "--address", HOST, "--check"]
     lines = subprocess.run(command, capture_output=True, text=True, check=True).stdout.splitlines()
     known = dict(line.split() for line in lines)
     times = {"lines-per-second": 10, "changes-per-minute": 10, "work-per-second": 4, "address-lines-per-second": 10,
              "address-changes-per-minute": 10, "connects-per-minute": 1}
-    right = {name: (known[name], f"{int(known[name]) * many:,}") for name, many in times.items()}
+    right = {name: (int(known[name]), int(known[name]) * many) for name, many in times.items()}
     return "" if rows == right else f"the page has {rows}, and the program {right}"
 
 
@@ -230,7 +318,11 @@ ROWS = [
     ("on the web", why_web_paced),
     ("lines of an address", why_addressed),
     ("changes of an address", why_address_changed),
+    ("changes of many sessions of an address", in_network(why_address_paced)),
     ("connections of an address", why_connects),
+    ("lines of an IPv6 network", in_network(why_network_lines)),
+    ("connections of an IPv6 network", in_network(why_network_connects)),
+    ("sessions of an IPv6 network", in_network(why_network_sessions)),
     ("one who types as people do", why_slow_person),
     ("a stop while sessions wait", why_stopped),
 ]
@@ -238,5 +330,4 @@ ROWS = [
 
 @part("limits", "lines beyond a rate limit are read later, in order, and none is lost")
 def limits(count):
-    for what, why_wrong in ROWS:
-        count.tries(f"limits: {what}", why_wrong)
+    count.tries_at_once((f"limits: {what}", why_wrong) for what, why_wrong in ROWS)

@@ -23,8 +23,6 @@ VARIABLE, VALUES = re.compile("%[ds]"), {"%d": r"\d+", "%s": ".*"}
 VERSION = re.compile(r"\[\d+\] |\(\d+\) ")
 # The row that gives a form alone, and the rows that list all lines in brackets of their files.
 FORM, IN_BRACKETS = "refused", ("failed", "ended")
-# The last line of a session that the host ends: the page shows it as it comes.
-UNMARKED = {"(ended by the host)"}
 # Lines that a program says only if one of its calls fails; other parts have the calls fail.
 AT_FAULTS = {"(out of memory)", "(not stored)", "(journal fault)"}
 # The lines of two players; the first hears those of the second. And the origin of a refused page.
@@ -87,7 +85,7 @@ def said_by_scripts():
 
 
 def said_by_server():
-    """Yields the lines that a server says to a page from elsewhere and to two players, up to its end."""
+    """Yields what a server says to a page from elsewhere and to two players. Its console ends one, then all."""
     with WebServer(console=True) as server:
         yield from server.ask(upgrade(ELSEWHERE)).decode("latin-1").split("\r\n")
         first, second = Client(server.port), Client(server.port)
@@ -95,6 +93,8 @@ def said_by_server():
             client.send_all(lines)
             yield from [client.line().decode() for _ in ["the greeting", *lines]]
         yield from [first.line().decode() for _ in SECOND]
+        server.type(b"end 2\n")
+        yield from (line.decode() for line in iter(second.line, None))
         server.type(b"stop\n")
         yield from (line.decode() for line in iter(first.line, None))
 
@@ -115,7 +115,7 @@ def count_defined(count, name, paths, texts):
     count(f"{name}: defined", not strange, f"{' '.join(paths)} does not define {strange}")
     if name in IN_BRACKETS:
         lines = {it for it in pieces if it[:1] == "(" and it[-1:] == ")"}
-        count(f"{name}: all", lines - UNMARKED == set(texts), f"{' '.join(paths)} has {sorted(lines)}")
+        count(f"{name}: all", lines == set(texts), f"{' '.join(paths)} has {sorted(lines)}")
 
 
 def count_form(count, paths, texts, said):

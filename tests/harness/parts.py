@@ -8,16 +8,23 @@ A test may count itself, so that its work is left out if its name is not wanted:
 
         count.tries("without an object", why_wrong, "put in lamp")
 
+Tests that mostly wait run side by side, unless they measure how busy the machine is:
+
+        count.tries_at_once([("a silent client", why_silent), ("two at once", why_two)])
+
 A part on demand runs only if it is named. A part with words gets the words after its name. A part that wants a proof is
 about proofs, or about the costs of a proved program: without names `tests/run --unproved` leaves it out.
 """
 import time
 import traceback
+from concurrent.futures import ThreadPoolExecutor
 from dataclasses import dataclass
 from typing import Callable
 
 PARTS = {}
 SHOWN_LENGTH, SHOWN_CALLS = 2000, 6
+# The number of tests that run at once, of those that mostly wait.
+AT_ONCE = 8
 
 
 class Skipped(Exception):
@@ -40,6 +47,16 @@ class Part:
         notes = ["on demand"] * self.on_demand + ["wants a proof"] * self.wants_proof
         notes += [f"words: {self.words}"] * bool(self.words)
         return f"{self.name:<26} {self.sentence}" + (f" ({'; '.join(notes)})" if notes else "")
+
+
+def reason(why_not, *given, **how):
+    """Returns what `why_not` returns, or the text of the exception that it raises, with its last calls."""
+    try:
+        return why_not(*given, **how)
+    except Skipped:
+        raise
+    except Exception:
+        return traceback.format_exc(limit=-SHOWN_CALLS)
 
 
 class Count:
@@ -66,15 +83,17 @@ class Count:
     def tries(self, name, why_not, *given, **how):
         """Counts a test that passes if `why_not`, called with the rest, returns no reason. If the test doesn't count,
         `why_not` isn't called. If it raises an exception, that is the reason, with its last calls."""
-        if not self.wants(name):
-            return
-        try:
-            why = why_not(*given, **how)
-        except Skipped:
-            raise
-        except Exception:
-            why = traceback.format_exc(limit=-SHOWN_CALLS)
-        self(name, not why, why)
+        if self.wants(name):
+            why = reason(why_not, *given, **how)
+            self(name, not why, why)
+
+    def tries_at_once(self, rows):
+        """Counts such tests, each a name and its `why_not`, in their order, and runs several at once."""
+        with ThreadPoolExecutor(AT_ONCE) as threads:
+            running = [(name, threads.submit(reason, why_not)) for name, why_not in rows if self.wants(name)]
+            for name, one in running:
+                why = one.result()
+                self(name, not why, why)
 
     def __str__(self):
         return f"{self.passed} passed, {self.failed} failed"

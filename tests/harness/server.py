@@ -60,9 +60,10 @@ class Server:
         return [line.decode() for line in LOGGED.findall(self.written())]
 
     def written(self):
-        """Returns all that it has written to standard error."""
-        self.errors.seek(0)
-        return self.errors.read()
+        """Returns all that it has written to standard error. The program writes at the offset of that file, so this
+        leaves the offset where it is.
+        """
+        return os.pread(self.errors.fileno(), os.fstat(self.errors.fileno()).st_size, 0)
 
     def most_memory(self):
         """Returns the most memory that it has used, in bytes."""

@@ -3,6 +3,7 @@ RFC 6455 and knows nothing of the server's code."""
 import base64
 import contextlib
 import hashlib
+import random
 import re
 import select
 import socket
@@ -30,11 +31,25 @@ OUTSIDE = re.compile(LOADS + rb"|\burl\(|@import|innerHTML|https?://(?!www\.w3\.
 SAID = b"said"
 
 
+def ports_of_no_client():
+    """Returns the ports below those that the system gives to clients, in random order."""
+    with open("/proc/sys/net/ipv4/ip_local_port_range") as file:
+        ports = range(10_000, int(file.read().split()[0]))
+    return random.sample(ports, len(ports))
+
+
+# An iterator over a list, which threads may share.
+PORTS = iter(ports_of_no_client())
+
+
 def free_port():
-    """Returns a port on which nothing listens now."""
-    with socket.socket() as one:
-        one.bind((HOST, 0))
-        return one.getsockname()[1]
+    """Returns a port on which nothing listens now. The system gives it to no client, and no other caller gets it."""
+    for port in PORTS:
+        with socket.socket() as one, contextlib.suppress(OSError):
+            one.setsockopt(socket.SOL_SOCKET, socket.SO_REUSEADDR, 1)
+            one.bind((HOST, port))
+            return port
+    raise OSError("no port is free")
 
 
 class WebServer(Server):

@@ -10,7 +10,6 @@ Begins bytes count =
     (c : Certificate) × IsCertificate c × (count ≤ length (cert_lines c))
     × ((rest : List ℕ) × (bytes ≡ text_of (take count (cert_lines c)) ++ rest))
 
--- line n is bad: the bytes are not a certificate's text, and begin with the lines before it of one, but not with n
--- lines
+-- line n is bad: the bytes are not a certificate, and their lines before n begin one, but not their first n lines
 abbrev pub IsBadLine : List ℕ → ℕ → Type 0
 IsBadLine bytes n = FailsAt (Begins bytes) n × ((c : Certificate) → IsCertificate c → bytes ≡ cert_text c → ⊥)

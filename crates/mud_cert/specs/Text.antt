@@ -28,7 +28,6 @@ abbrev pub exits_text : List ℕ → List ℕ
 exits_text [] = codes " nothing"
 exits_text exits = flat_map (λ exit. codes " #" ++ decimal exit) exits
 
--- the line of a walk
 abbrev pub walk_line : Option (List ℕ) → List ℕ
 walk_line None = codes "walk none"
 walk_line (Some exits) = codes "walk" ++ exits_text exits
@@ -39,7 +38,6 @@ member_lines form a =
     (codes "member #" ++ decimal a.player ++ codes " from #" ++ decimal a.from)
     ∷ (codes "labels" ++ flat_map (entry_text form) a.labels) ∷ walk_line a.walk ∷ []
 
--- the line of a conclusion
 abbrev pub conclusion_line : Conclusion → List ℕ
 conclusion_line (Route to (Some cost)) = codes "route #" ++ decimal to ++ codes " cost " ++ decimal cost
 conclusion_line (Route to None) = codes "route #" ++ decimal to ++ codes " no way"
@@ -52,6 +50,5 @@ cert_lines c =
     head_line c.form ∷ (codes "version " ++ decimal c.version) ∷ flat_map (member_lines c.form) c.members
     ++ conclusion_line c.conclusion ∷ codes "end" ∷ []
 
--- the text of a certificate
 unfoldable pub cert_text : Certificate → List ℕ
 cert_text c = text_of (cert_lines c)

@@ -10,7 +10,6 @@ use Rattle.mud_chron.specs.declared.fault.ChronFault.TheVariants.{OutOfMemory, B
 use Rattle.mud_chron.specs.Entry.{Entry}
 use Rattle.mud_world.specs.FirstFailure.{FailsAt}
 
--- the changes of entries
 abbrev pub changes_of : List Entry → List Change
 changes_of entries = map (λ e. e.change) entries
 

@@ -71,6 +71,5 @@ end_line count = codes "end " ++ decimal count
 abbrev pub journal_text : Format → List Entry → List ℕ
 journal_text format entries = head_line format ++ line_feed ++ entries_text 1 entries
 
--- the text of a history
 abbrev pub history_text : Format → List Entry → List ℕ
 history_text format entries = journal_text format entries ++ (end_line (length entries) ++ line_feed)

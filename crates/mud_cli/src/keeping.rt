@@ -65,6 +65,11 @@ pub enum Keeping<'a> {
         old: KeptFile<'a>,
         new: &'a str,
     },
+    /// Say whether the history in the file `new` continues that in the file `old`.
+    Chain {
+        old: KeptFile<'a>,
+        new: &'a str,
+    },
     /// Print the history without the changes of these versions.
     Without {
         file: KeptFile<'a>,
@@ -262,14 +267,19 @@ fn keeping_in<'a>(alloc: Global, matches: &ArgMatches<'a>) -> Result<Keeping<'a>
         "survey" => survey_in(alloc, file, words),
         "without" => without_in(alloc, file, words),
         "lines" => lines_in(alloc, file, words),
-        "diff" => diff_in(file, words),
+        "diff" | "chain" => pair_in(name, file, words),
         _ => text_in(name, file, words),
     }
 }
 
-// Returns the comparison that the words ask for.
-fn diff_in<'a>(old: KeptFile<'a>, words: &ArgMatches<'a>) -> Result<Keeping<'a>, Unfit> {
+// Returns the comparison of two files that the words ask for.
+fn pair_in<'a>(
+    name: &str,
+    old: KeptFile<'a>,
+    words: &ArgMatches<'a>,
+) -> Result<Keeping<'a>, Unfit> {
     match words.get_str("NEW") {
+        Some(new) if name == "chain" => Ok(Keeping::Chain { old, new }),
         Some(new) => Ok(Keeping::Diff { old, new }),
         None => Err(Unfit::Told(NO_WISH)),
     }

@@ -4,7 +4,7 @@ use crate::argument::{Argument, FLAG, NUMBER, OPTION, PLACE, PLACES};
 use crate::form::Form;
 
 // The forms of `mud_keep`.
-pub(crate) static FORMS: [Form<'static>; 8] = [
+pub(crate) static FORMS: [Form<'static>; 9] = [
     Form {
         name: "recover",
         about: "Prints the history that a journal holds, with its end",
@@ -33,6 +33,11 @@ pub(crate) static FORMS: [Form<'static>; 8] = [
     Form {
         name: "diff",
         about: "Prints the differences of two worlds",
+        arguments: &[OLD, NEW, JOURNALS],
+    },
+    Form {
+        name: "chain",
+        about: "Says whether a history continues another one, and at which version",
         arguments: &[OLD, NEW, JOURNALS],
     },
     Form {

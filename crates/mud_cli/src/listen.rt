@@ -125,7 +125,7 @@ pub(crate) const LISTEN: [Argument; 28] = [
     },
     Argument {
         name: "address-changes-per-minute",
-        default: &["80"],
+        default: &["36"],
         help: "How many changes all sessions of an address make in a minute, likewise; 0: no limit",
         ..RATE
     },

@@ -15,7 +15,6 @@ use Rattle.mud_session.proofs.Naming.{begins_so, taken_so, nothing_beyond}
 use Rattle.mud_session.proofs.Talking.{talks_go_on}
 use Rattle.mud_client.specs.declared.framing.Framing.{Framing}
 use Rattle.mud_client.specs.declared.outgoing.End.{End}
-use Rattle.mud_client.specs.declared.outgoing.Outgoing.{Outgoing}
 use Rattle.mud_web.specs.declared.closing.Ending.{Ending}
 use Rattle.mud_web.specs.declared.fault.Fault.{Fault}
 use Rattle.mud_web.specs.declared.fault.Fault.TheVariants.{OutOfMemory, Over, Ended}
@@ -25,7 +24,7 @@ use Rattle.mud_client.specs.Sayings.{AreReplies}
 use Rattle.mud_client.specs.Client.{ClientState, state_of, Stands, IsSound}
 use Rattle.mud_client.specs.Steps.{MatchEnd, IfDone, door_of, IsFed, saying, ends_line, first_line, has_line}
 use Rattle.mud_client.specs.Steps.{Comes, FeedsLine, AnswersFrames, Says, Steps, IsFedAll, CutsOff, LooksFor, Looks}
-use Rattle.mud_client.specs.Steps.{Parts}
+use Rattle.mud_client.specs.Steps.{Output, Parts}
 use Rattle.mud_client.proofs.Leaving.{frames_new, frames_on, frames_more, replies_broken}
 use Rattle.mud_client.proofs.Feeding.{line_splits}
 
@@ -103,8 +102,8 @@ silent_stands came sent client s = record {
   frames = frames_more client.framing came (s.typed ++ client.waiting) s.said client.session.out sent s.frames;
 }
 
-said_stands : (came sent : List ℕ) (line : Bool) (old new : ClientState) (out : Outgoing) → Says line old new out
-    → Stands came sent old → Stands came (sent ++ out.text.text.items) new
+said_stands : (came sent : List ℕ) (line : Bool) (old new : ClientState) (out : Output) → Says line old new out
+    → Stands came sent old → Stands came (sent ++ out.text) new
 said_stands came sent line old new out says s =
     subst (λ (t : List ℕ). Stands came (sent ++ t) new) (sym says.gives)
     (subst (Stands came (sent ++ framed old.framing old.session.out)) (sym says.same)
@@ -187,9 +186,9 @@ match_end (Some End.NotText) done over refused m = refused m
 match_end (Some End.Earlier) done over refused m = refused m
 
 -- a step whose output is the replies to frames
-pub frames_step : (bytes replies : List ℕ) (old mid new : ClientState) (out : Outgoing)
+pub frames_step : (bytes replies : List ℕ) (old mid new : ClientState) (out : Output)
     → Comes bytes replies old mid → replies ≢ [] → mid.has_ended ≡ false → new ≡ record mid { has_ended = false }
-    → out.text.text.items ≡ replies → out.text.version ≡ 0 → out.has_line ≡ false → Steps bytes old new out
+    → out.text ≡ replies → out.version ≡ 0 → out.has_line ≡ false → Steps bytes old new out
 frames_step bytes replies old mid new out comes some going is gives version line = record {
   answered = replies;
   mid = mid;
@@ -204,10 +203,10 @@ frames_step bytes replies old mid new out comes some going is gives version line
 }
 
 -- a step that answers the first waiting line
-pub line_step : (bytes replies : List ℕ) (line : Bool) (old mid fed new : ClientState) (out : Outgoing)
+pub line_step : (bytes replies : List ℕ) (line : Bool) (old mid fed new : ClientState) (out : Output)
     → Comes bytes replies old mid → replies ≡ [] → FeedsLine mid fed → line ≡ has_line mid.waiting
-    → MatchEnd out.end (Says line fed new out) (λ error. ⊥) (out.text.text.items ≡ [])
-    → MatchEnd out.end (Steps bytes old new out) (λ error. CutsOff bytes error old new out) (out.text.text.items ≡ [])
+    → MatchEnd out.end (Says line fed new out) (λ error. ⊥) (out.text ≡ [])
+    → MatchEnd out.end (Steps bytes old new out) (λ error. CutsOff bytes error old new out) (out.text ≡ [])
 line_step bytes replies line old mid fed new out comes none feeds has says =
     match_end out.end
     (λ said. record {
@@ -217,10 +216,10 @@ line_step bytes replies line old mid fed new out comes none feeds has says =
       gives = inr (none, fed, feeds, subst (λ (b : Bool). Says b fed new out) has said);
     }) (λ e is over. absurd over) (λ undone. undone) says
 
-given_stands : (came sent answered : List ℕ) (mid new : ClientState) (out : Outgoing)
+given_stands : (came sent answered : List ℕ) (mid new : ClientState) (out : Output)
     → AnswersFrames answered mid new out
     ⊎ ((answered ≡ []) × (fed : ClientState) × FeedsLine mid fed × Says (has_line mid.waiting) fed new out)
-    → Stands came (sent ++ answered) mid → Stands came (sent ++ out.text.text.items) new
+    → Stands came (sent ++ answered) mid → Stands came (sent ++ out.text) new
 given_stands came sent answered mid new out (inl a) s =
     subst (λ (t : List ℕ). Stands came (sent ++ t) new) (sym a.gives)
     (subst (Stands came (sent ++ answered)) (sym a.same) s)
@@ -228,17 +227,17 @@ given_stands came sent answered mid new out (inr (none, fed, feeds, says)) s =
     said_stands came sent _ fed new out says (fed_stands came sent mid fed feeds
     (subst (λ (t : List ℕ). Stands came t mid) (ap (λ (l : List ℕ). sent ++ l) none ∙ append-nil sent) s))
 
-pub step_stands : (bytes came sent : List ℕ) (old new : ClientState) (out : Outgoing)
-    → MatchEnd out.end (Steps bytes old new out) (λ error. CutsOff bytes error old new out) (out.text.text.items ≡ [])
-    → Stands came sent old → IfDone out.end (Stands (came ++ bytes) (sent ++ out.text.text.items) new)
+pub step_stands : (bytes came sent : List ℕ) (old new : ClientState) (out : Output)
+    → MatchEnd out.end (Steps bytes old new out) (λ error. CutsOff bytes error old new out) (out.text ≡ [])
+    → Stands came sent old → IfDone out.end (Stands (came ++ bytes) (sent ++ out.text) new)
 step_stands bytes came sent old new out m s =
     match_end out.end
     (λ step. given_stands (came ++ bytes) sent step.answered step.mid new out step.gives
     (comes_stands bytes step.answered came sent old step.mid step.comes s)) (λ e is f. tt) (λ r. tt) m
 
-pub look_stands : (came sent : List ℕ) (old new : ClientState) (out : Outgoing)
-    → MatchEnd out.end (Looks old new out) (λ error. ⊥) (out.text.text.items ≡ []) → Stands came sent old
-    → IfDone out.end (Stands came (sent ++ out.text.text.items) new)
+pub look_stands : (came sent : List ℕ) (old new : ClientState) (out : Output)
+    → MatchEnd out.end (Looks old new out) (λ error. ⊥) (out.text ≡ []) → Stands came sent old
+    → IfDone out.end (Stands came (sent ++ out.text) new)
 look_stands came sent old new out m s =
     match_end out.end
     (λ looks. said_stands came sent false looks.0 new out looks.2 (looked_stands came sent old looks.0 looks.1 s))
@@ -343,10 +342,10 @@ on_ok (Err e) p f = tt
 
 -- the output of the session
 pub says_so : (line : Bool) (end : Option End) (old : ClientState) (framing : Framing) (session : SessionState)
-    (new : ClientState) (out : Outgoing) → framing ≡ old.framing → session ≡ (saying [] old).session
+    (new : ClientState) (out : Output) → framing ≡ old.framing → session ≡ (saying [] old).session
     → new ≡ record old { framing = framing; session = session; has_ended = is_some end }
-    → is_some end ≡ old.has_ended → out.text.text.items ≡ framed old.framing old.session.out
-    → out.text.version ≡ length old.desk.seen → out.has_line ≡ line → Says line old new out
+    → is_some end ≡ old.has_ended → out.text ≡ framed old.framing old.session.out
+    → out.version ≡ length old.desk.seen → out.has_line ≡ line → Says line old new out
 says_so line end old framing session new out same silent is ended gives version ends = record {
   same = is ∙ ap (λ (f : Framing). record old { framing = f; session = session; has_ended = is_some end }) same
       ∙ ap (λ (s : SessionState). record old { session = s; has_ended = is_some end }) silent
@@ -391,10 +390,10 @@ parted line none said text ending mid old new nothing same is words (inr close) 
 }
 
 -- frames ended it
-pub cut_so : (bytes replies : List ℕ) (fault : Fault) (error : Error) (old cut new : ClientState) (out : Outgoing)
+pub cut_so : (bytes replies : List ℕ) (fault : Fault) (error : Error) (old cut new : ClientState) (out : Output)
     → cut ≡ record old { framing = cut.framing; waiting = cut.waiting; has_ended = cut.has_ended }
     → IfOver fault (Breaks old.framing bytes old.waiting cut.waiting replies) → fault ≡ Over error
-    → out.text.text.items ≡ replies → IsFedAll cut new → CutsOff bytes error old new out
+    → out.text ≡ replies → IsFedAll cut new → CutsOff bytes error old new out
 cut_so bytes replies fault error old cut new out same breaks is given fed = record {
   typed = cut.waiting;
   breaks = subst (λ (l : List ℕ). Breaks old.framing bytes old.waiting cut.waiting l error) (sym given)

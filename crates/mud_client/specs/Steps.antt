@@ -28,6 +28,29 @@ MatchEnd end done over refused = refused
 abbrev pub IfDone : Option End → Type 0 → Type 0
 IfDone end done = MatchEnd end done (λ error. Unit {0}) (Unit {0})
 
+-- ---- the result of a step
+
+-- the output of a step, the version that it is withheld for, and the other results of the step
+pub record Output : Type 0 where
+  pub text : List ℕ
+  pub version : ℕ
+  pub end : Option End
+  pub has_line : Bool
+  pub has_more : Bool
+  pub accepted : Option ℕ
+  pub has_player : Bool
+
+abbrev pub output_of : {J : Type 0} → Outgoing J → Output
+output_of out = record {
+  text = out.text.text.items;
+  version = out.text.version;
+  end = out.end;
+  has_line = out.has_line;
+  has_more = out.has_more;
+  accepted = out.accepted;
+  has_player = out.has_player;
+}
+
 -- ---- its session
 
 -- its desk, at a hall whose history has this capacity
@@ -45,10 +68,10 @@ abbrev pub saying : List ℕ → ClientState → ClientState
 saying said client = record client { session = record client.session { out = said } }
 
 -- the output of the session is returned, framed; it waits for the entries that the desk has seen
-pub record Says (line : Bool) (old new : ClientState) (out : Outgoing) : Type 0 where
+pub record Says (line : Bool) (old new : ClientState) (out : Output) : Type 0 where
   pub same : new ≡ saying [] old
-  pub gives : out.text.text.items ≡ framed old.framing old.session.out
-  pub version : out.text.version ≡ length old.desk.seen
+  pub gives : out.text ≡ framed old.framing old.session.out
+  pub version : out.version ≡ length old.desk.seen
   pub ends : out.has_line ≡ line
 
 abbrev pub ends_line : ℕ → Bool
@@ -70,11 +93,11 @@ pub record Comes (bytes answered : List ℕ) (old new : ClientState) : Type 0 wh
   pub same : new ≡ record old { framing = new.framing; waiting = new.waiting }
 
 -- the replies are the output, and wait for no entry; the waiting text stays
-pub record AnswersFrames (answered : List ℕ) (old new : ClientState) (out : Outgoing) : Type 0 where
+pub record AnswersFrames (answered : List ℕ) (old new : ClientState) (out : Output) : Type 0 where
   pub some : answered ≢ []
   pub same : new ≡ old
-  pub gives : out.text.text.items ≡ answered
-  pub version : out.text.version ≡ 0
+  pub gives : out.text ≡ answered
+  pub version : out.version ≡ 0
   pub line : out.has_line ≡ false
 
 -- the first waiting line is fed
@@ -86,7 +109,7 @@ pub record FeedsLine (old new : ClientState) : Type 0 where
 
 -- a step with input. If the protocol replies to its frames, these replies are the whole output; otherwise the first
 -- waiting line is fed, and the output is what the session says
-pub record Steps (bytes : List ℕ) (old new : ClientState) (out : Outgoing) : Type 0 where
+pub record Steps (bytes : List ℕ) (old new : ClientState) (out : Output) : Type 0 where
   pub answered : List ℕ
   pub mid : ClientState
   pub comes : Comes bytes answered old mid
@@ -103,9 +126,9 @@ pub record IsFedAll (old new : ClientState) : Type 0 where
 
 -- frames end the connection with this error. The text typed before is fed, and its answers are dropped: the output is
 -- the replies to the frames, and the close that the error calls for
-pub record CutsOff (bytes : List ℕ) (error : Error) (old new : ClientState) (out : Outgoing) : Type 0 where
+pub record CutsOff (bytes : List ℕ) (error : Error) (old new : ClientState) (out : Output) : Type 0 where
   pub typed : List ℕ
-  pub breaks : Breaks old.framing bytes old.waiting typed out.text.text.items error
+  pub breaks : Breaks old.framing bytes old.waiting typed out.text error
   pub fed : IsFedAll (record old { waiting = typed }) new
 
 -- ---- the other steps
@@ -116,7 +139,7 @@ pub record LooksFor (old new : ClientState) : Type 0 where
   pub same : new ≡ record old { session = new.session; desk = new.desk }
 
 -- then the output is what the session says
-abbrev pub Looks : (old new : ClientState) → Outgoing → Type 0
+abbrev pub Looks : (old new : ClientState) → Output → Type 0
 Looks old new out = (looked : ClientState) × LooksFor old looked × Says false looked new out
 
 -- its last output is this line and this close; if an allocation fails, a part of that is missing
@@ -132,7 +155,7 @@ pub record Parts (line : List ℕ) (ending : Option Ending) (old new : ClientSta
 
 -- a step reports whether the client has ended, whether lines wait, the number of entries seen if the desk accepted a
 -- change beyond the earlier count, and whether it is a player's
-pub record Reports (accepted : ℕ) (client : ClientState) (out : Outgoing) : Type 0 where
+pub record Reports (accepted : ℕ) (client : ClientState) (out : Output) : Type 0 where
   pub ended : client.has_ended ≡ is_some out.end
   pub more : out.has_more ≡ (is_none out.end && nat_lt 0 (length client.waiting))
   pub change : out.accepted

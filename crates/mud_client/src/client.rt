@@ -6,7 +6,7 @@ ghost use Rattle.std.specs.Prelude.{◌⊎◌};
 ghost use Rattle.mud_hall.specs.Desk.{as_guest};
 ghost use Rattle.mud_client.specs.Framed.{IsNew, last_words};
 ghost use Rattle.mud_client.specs.Client.{Stands};
-ghost use Rattle.mud_client.specs.Steps.{MatchEnd, IfDone, Steps, CutsOff, Looks, Parts, Reports};
+ghost use Rattle.mud_client.specs.Steps.{MatchEnd, IfDone, output_of, Steps, CutsOff, Looks, Parts, Reports};
 
 use crate::framing::Framing;
 use crate::outgoing::{End, Outgoing};
@@ -60,6 +60,7 @@ impl<J: HallName> Client<J> {
         requires { IsNew framing }
         ensures stands { IfOk result (λ client. Stands [] [] client) }
         ensures framing { IfOk result (λ client. client.framing ≡ framing) }
+        ensures capacity { IfOk result (λ client. client.capacity ≡ length J.cells) }
         ensures desk { IfOk result (λ client. client.desk ≡ as_guest desk.state) }
         ensures open_still { IfOk result (λ client. client.has_ended ≡ false) }
         ensures err { IfErr result (λ back. back ≡ desk) }
@@ -89,14 +90,14 @@ impl<J: HallName> Client<J> {
         hall: &Hall<J>,
         workers: u32,
         bytes: &[u8],
-    ) -> (Client<J>, Outgoing)
+    ) -> (Client<J>, Outgoing<J>)
         requires { workers ≤ MOST_WORKERS }
-        ensures step { MatchEnd result.1.end (Steps bytes.now self result.0 result.1)
-            (λ error. CutsOff bytes.now error self result.0 result.1) (result.1.text.text.items ≡ []) }
+        ensures step { MatchEnd result.1.end (Steps bytes.now self result.0 (output_of result.1))
+            (λ error. CutsOff bytes.now error self result.0 (output_of result.1)) (result.1.text.text.items ≡ []) }
         ensures stands { (came sent : List ℕ) → Stands came sent self → IfDone result.1.end
             (Stands (came ++ bytes.now) (sent ++ result.1.text.text.items) result.0) }
         ensures earlier { self.has_ended ≡ true → result.1.end ≡ Some End.Earlier }
-        ensures reports { Reports (length self.desk.calls) result.0 result.1 }
+        ensures reports { Reports (length self.desk.calls) result.0 (output_of result.1) }
     {
         let mut client = self;
         let before = client.desk.accepted_count();
@@ -121,14 +122,14 @@ impl<J: HallName> Client<J> {
     }
 
     /// Looks for changes of others, but at no entry after the `most`-th.
-    pub fn nudge(self, hall: &Hall<J>, workers: u32, most: u32) -> (Client<J>, Outgoing)
+    pub fn nudge(self, hall: &Hall<J>, workers: u32, most: u32) -> (Client<J>, Outgoing<J>)
         requires { workers ≤ MOST_WORKERS }
-        ensures step { MatchEnd result.1.end (Looks self result.0 result.1) (λ error. ⊥)
+        ensures step { MatchEnd result.1.end (Looks self result.0 (output_of result.1)) (λ error. ⊥)
             (result.1.text.text.items ≡ []) }
         ensures stands { (came sent : List ℕ) → Stands came sent self → IfDone result.1.end
             (Stands came (sent ++ result.1.text.text.items) result.0) }
         ensures earlier { self.has_ended ≡ true → result.1.end ≡ Some End.Earlier }
-        ensures reports { Reports (length self.desk.calls) result.0 result.1 }
+        ensures reports { Reports (length self.desk.calls) result.0 (output_of result.1) }
     {
         let before = self.desk.accepted_count();
         if self.has_ended {

@@ -54,11 +54,11 @@ impl End {
     }
 }
 
-/// The output of a step, and its other results.
+/// The output of a step, and its other results. `J` names the journal whose receipts release the output.
 #[derive(Drop)]
-pub struct Outgoing {
+pub struct Outgoing<J> {
     /// The output, withheld until the versions that it can name are synced.
-    pub text: Held<Sayings>,
+    pub text: Held<J, Sayings>,
     /// The reason why the client has ended, if it has.
     pub end: Option<End>,
     /// True if a line ended in the answered input.

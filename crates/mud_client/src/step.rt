@@ -5,7 +5,7 @@ ghost use Rattle.mud_search.specs.declared.limits.TheConstants.{MOST_WORKERS};
 ghost use Rattle.mud_web.specs.Channel.{IfOver};
 ghost use Rattle.mud_session.specs.Laws.{NamesSeen};
 ghost use Rattle.mud_client.specs.Sayings.{AreReplies};
-ghost use Rattle.mud_client.specs.Steps.{MatchEnd, Says, FeedsLine, LooksFor, IsFedAll, Reports, has_line};
+ghost use Rattle.mud_client.specs.Steps.{MatchEnd, output_of, Says, FeedsLine, LooksFor, IsFedAll, Reports, has_line};
 ghost use Rattle.mud_client.specs.inner.Refusal.{IsRefusal};
 
 use crate::client::Client;
@@ -124,16 +124,16 @@ impl<J: HallName> Client<J> {
     pub(crate) fn give(
         self,
         before: usize,
-        text: Held<Sayings>,
+        text: Held<J, Sayings>,
         end: Option<End>,
         has_line: bool,
-    ) -> (Client<J>, Outgoing)
+    ) -> (Client<J>, Outgoing<J>)
         requires { end ≡ None → self.has_ended ≡ false }
         ensures client { result.0 ≡ record self { has_ended = is_some end } }
         ensures text { result.1.text ≡ text }
         ensures end { result.1.end ≡ end }
         ensures line { result.1.has_line ≡ has_line }
-        ensures reports { Reports before result.0 result.1 }
+        ensures reports { Reports before result.0 (output_of result.1) }
     {
         let mut client = self;
         client.has_ended = end.is_some();
@@ -153,22 +153,22 @@ impl<J: HallName> Client<J> {
     }
 
     // Ends the step undone, without output.
-    pub(crate) fn refuse(self, before: usize, end: End) -> (Client<J>, Outgoing)
+    pub(crate) fn refuse(self, before: usize, end: End) -> (Client<J>, Outgoing<J>)
         requires { IsRefusal end }
         ensures refused { MatchEnd result.1.end ⊥ (λ error. ⊥) (result.1.text.text.items ≡ []) }
         ensures end { result.1.end ≡ Some end }
-        ensures reports { Reports before result.0 result.1 }
+        ensures reports { Reports before result.0 (output_of result.1) }
     {
         let nothing = Held::new(Vec::new(self.alloc), 0);
         self.give(before, nothing, Some(end), false)
     }
 
     // Ends the step with the output of the session. The client ends if the session has.
-    pub(crate) fn say(self, before: usize, has_line: bool) -> (Client<J>, Outgoing)
+    pub(crate) fn say(self, before: usize, has_line: bool) -> (Client<J>, Outgoing<J>)
         requires { ∥ NamesSeen self.session self.desk ∥₁ }
-        ensures says { MatchEnd result.1.end (Says has_line self result.0 result.1) (λ error. ⊥)
+        ensures says { MatchEnd result.1.end (Says has_line self result.0 (output_of result.1)) (λ error. ⊥)
             (result.1.text.text.items ≡ []) }
-        ensures reports { Reports before result.0 result.1 }
+        ensures reports { Reports before result.0 (output_of result.1) }
     {
         let mut client = self;
         let said = client.session.take_out();
@@ -196,14 +196,14 @@ impl<J: HallName> Client<J> {
         before: usize,
         replies: Vec<u8>,
         fault: Fault,
-    ) -> (Client<J>, Outgoing)
+    ) -> (Client<J>, Outgoing<J>)
         requires workers { workers ≤ MOST_WORKERS }
         requires ended { self.has_ended ≡ true }
         requires open_still { self.session.has_ended ≡ false }
         requires replies { IfOver fault (λ error. ∥ AreReplies replies.items ∥₁) }
         ensures over { MatchEnd result.1.end ⊥ (λ error. (fault ≡ Fault.Over error)
             × (result.1.text.text.items ≡ replies.items) × IsFedAll self result.0) (result.1.text.text.items ≡ []) }
-        ensures reports { Reports before result.0 result.1 }
+        ensures reports { Reports before result.0 (output_of result.1) }
     {
         let error = match fault {
             Fault::OutOfMemory => return self.refuse(before, End::OutOfMemory),

@@ -1,5 +1,6 @@
 -- The answers to a world's keeper.
 use Rattle.std.specs.Prelude.{◌≡◌, ◌⊎◌, ℕ, List, length, Option, Some, None}
+use Rattle.mud_world.specs.State.{State}
 use Rattle.mud_world.specs.History.{world_of}
 use Rattle.mud_chron.specs.declared.fault.ChronFault.{ChronFault}
 use Rattle.mud_chron.specs.Entry.{Entry}
@@ -32,6 +33,18 @@ pub record IsShownText (kind : TextKind) (bytes text : List ℕ) (torn : Option 
   pub kept : KeepsEntries kind bytes entries torn
   pub legal : AreLegal (changes_of entries)
   pub text_is : text ≡ shown_text (world_of (changes_of entries))
+
+-- the bytes keep these entries, and all of them are legal
+pub record KeepsLegal (kind : TextKind) (bytes : List ℕ) (torn : Option ℕ) (entries : List Entry) : Type 0 where
+  pub kept : KeepsEntries kind bytes entries torn
+  pub legal : AreLegal (changes_of entries)
+
+-- the bytes keep entries that are all legal and lead to this world
+pub record KeepsWorld (kind : TextKind) (bytes : List ℕ) (torn : Option ℕ) (w : State) : Type 0 where
+  pub entries : List Entry
+  pub kept : KeepsEntries kind bytes entries torn
+  pub legal : AreLegal (changes_of entries)
+  pub world : w ≡ world_of (changes_of entries)
 
 -- the text is the history in a journal, and the number of torn bytes is reported
 abbrev pub IsRecovery : List ℕ → List ℕ → Option ℕ → Note → Type 0

@@ -1,5 +1,6 @@
 //! Rate limits of addresses.
 
+use crate::debt::Debt;
 use crate::rates::{CHANGES_AT_ONCE, LINES_AT_ONCE, MINUTE, Rates};
 use mud_meter::Meter;
 use std::alloc::{AllocError, Global};
@@ -14,7 +15,7 @@ const MOST_KNOWN: usize = 256;
 #[derive(Drop)]
 struct Meters {
     lines: Meter,
-    changes: Meter,
+    changes: Debt,
     connects: Meter,
 }
 
@@ -53,7 +54,7 @@ impl AddressMeters {
                     lines.saturating_mul(LINES_AT_ONCE),
                     now,
                 ),
-                changes: Meter::new(changes, changes.saturating_mul(CHANGES_AT_ONCE), now),
+                changes: Debt::new(changes, changes.saturating_mul(CHANGES_AT_ONCE), now),
                 connects: Meter::new(connects, connects, now),
             }),
         }
@@ -74,14 +75,14 @@ impl AddressMeters {
     }
 
     /// Counts a change that was made.
-    pub(crate) fn spend_change<R: Wait>(&self, rt: &R, now: Duration) {
-        self.meters.lock(rt).changes.spend(now, 1);
+    pub(crate) fn spend_change<R: Wait>(&self, rt: &R) {
+        self.meters.lock(rt).changes.owe(1);
     }
 }
 
-// Returns the address whose meters an address uses. An IPv6 host usually has all addresses with the same first 64 bits
-// (RFC 4291, section 2.5.1).
-fn host_of(address: IpAddr) -> IpAddr {
+/// Returns the address that stands for the host of an address: limits count by it. An IPv6 host usually has all
+/// addresses with the same first 64 bits (RFC 4291, section 2.5.1).
+pub fn host_of(address: IpAddr) -> IpAddr {
     match address {
         IpAddr::V4(_) => address,
         IpAddr::V6(v6) => {

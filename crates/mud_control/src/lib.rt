@@ -11,6 +11,7 @@
 
 mod address;
 mod control;
+mod debt;
 mod news;
 mod pace;
 mod rates;
@@ -18,7 +19,7 @@ mod roster;
 mod sign;
 mod tally;
 
-pub use address::{AddressMeters, Crowd};
+pub use address::{AddressMeters, Crowd, host_of};
 pub use control::{Control, Hosting};
 pub use news::News;
 pub use pace::Pace;

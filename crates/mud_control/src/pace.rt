@@ -1,6 +1,7 @@
 //! Rate limits of sessions.
 
 use crate::address::AddressMeters;
+use crate::debt::Debt;
 use crate::rates::{CHANGES_AT_ONCE, LINES_AT_ONCE, MINUTE, Rates, WORK_AT_ONCE};
 use mud_meter::Meter;
 use std::sync::{Arc, Wait};
@@ -12,7 +13,7 @@ pub struct Pace {
     lines: Meter,
     changes: Meter,
     // In milliseconds.
-    work: Meter,
+    work: Debt,
     shared: Option<Arc<AddressMeters>>,
     // True if the session's own token for the next line was taken already, and that of its address.
     has_token: bool,
@@ -34,7 +35,7 @@ impl Pace {
                 now,
             ),
             changes: Meter::new(changes, changes.saturating_mul(CHANGES_AT_ONCE), now),
-            work: Meter::new(
+            work: Debt::new(
                 work.saturating_mul(MINUTE),
                 work.saturating_mul(WORK_AT_ONCE),
                 now,
@@ -50,7 +51,7 @@ impl Pace {
         self.shared.is_some()
     }
 
-    // Takes the token of the session itself. Returns the time to wait if there is none.
+    // Takes a token of the session. Returns the time to wait if the session has no token.
     fn wait_for_own(&mut self, now: Duration) -> Option<Duration> {
         if let Some(wait) = self.changes.wait(now) {
             return Some(wait);
@@ -91,11 +92,11 @@ impl Pace {
     /// Counts an answered line: the time that it took, and whether it made a change.
     pub fn spend<R: Wait>(&mut self, rt: &R, now: Duration, work: Duration, has_changed: bool) {
         let millis = u32::try_from(work.as_millis()).unwrap_or(u32::MAX);
-        self.work.spend(now, millis);
+        self.work.owe(millis);
         if has_changed {
             self.changes.spend(now, 1);
             if let Some(shared) = &self.shared {
-                shared.spend_change(rt, now);
+                shared.spend_change(rt);
             }
         }
     }

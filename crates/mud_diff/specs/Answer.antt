@@ -1,24 +1,13 @@
 -- The result for two texts.
 use Rattle.std.specs.Prelude.{◌≡◌, ◌≢◌, ℕ, Bool, List, Option, MatchBool}
 use Rattle.mud_world.specs.State.{State}
-use Rattle.mud_world.specs.History.{world_of}
-use Rattle.mud_chron.specs.Entry.{Entry}
-use Rattle.mud_chron.specs.Replay.{changes_of, AreLegal}
 use Rattle.mud_compact.specs.declared.reading.TextKind.{TextKind}
-use Rattle.mud_compact.specs.Recovery.{KeepsEntries}
-use Rattle.mud_compact.specs.Answer.{KeepsNoWorld}
+use Rattle.mud_compact.specs.Answer.{KeepsWorld, KeepsNoWorld}
 use Rattle.mud_diff.specs.declared.answering.NoDiff.{NoDiff}
 use Rattle.mud_diff.specs.declared.answering.NoDiff.TheVariants.{Old, New}
 use Rattle.mud_diff.specs.declared.difference.Difference.{Difference}
 use Rattle.mud_diff.specs.Differences.{AreDifferences}
 use Rattle.mud_diff.specs.Rows.{diff_text}
-
--- the bytes keep entries that are all legal and lead to this world
-pub record KeepsWorld (kind : TextKind) (bytes : List ℕ) (torn : Option ℕ) (w : State) : Type 0 where
-  pub entries : List Entry
-  pub kept : KeepsEntries kind bytes entries torn
-  pub legal : AreLegal (changes_of entries)
-  pub world : w ≡ world_of (changes_of entries)
 
 -- the text has the differences of the worlds, and the flag says whether they are the same
 pub record IsDiffText (old new : State) (text : List ℕ) (is_same : Bool) : Type 0 where

@@ -1,8 +1,8 @@
 //! Compares two histories.
 
 ghost use Rattle.std.specs.Prelude.{◌≡◌, IfOk, IfErr, string_bytes};
-ghost use Rattle.mud_diff.specs.Answer.{KeepsWorld, IsDiffText, IsDiff, HasNoDiff};
-ghost use Rattle.mud_compact.specs.Answer.{KeepsNoWorld};
+ghost use Rattle.mud_diff.specs.Answer.{IsDiffText, IsDiff, HasNoDiff};
+ghost use Rattle.mud_compact.specs.Answer.{KeepsWorld, KeepsNoWorld};
 
 use crate::comparing::differences;
 use crate::rows::diff_text;
@@ -52,7 +52,7 @@ pub struct Comparison {
     pub is_same: bool,
 }
 
-/// Returns the differences of an old world and a new one as a text, and a flag that is true if there is none
+/// Returns the differences of an old world and a new one as a text, and a flag that is true if they are equal
 /// (docs/KEEPING.md, "Diff"). The only error is out of memory.
 pub fn compare(alloc: Global, old: &World, new: &World) -> Result<Comparison, AllocError>
     ensures { IfOk result (λ c. IsDiffText old.now new.now (string_bytes c.text) c.is_same) }

@@ -80,7 +80,7 @@ pub(crate) fn cost_in(kept: &Record) -> Option<u32>
     Some(kept.kind.passage()?.cost)
 }
 
-// Returns whether two records are the same in this field.
+// Returns whether two records are equal in this field.
 fn same_in(what: What, old: &Record, new: &Record) -> bool
     ensures { MatchBool result (DiffersIn what (Some old.now) (Some new.now) → ⊥)
         (DiffersIn what (Some old.now) (Some new.now)) }

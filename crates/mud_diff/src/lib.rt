@@ -4,7 +4,7 @@
 //! |---|---|
 //! | `differences` | the differences of the objects of an old world and a new one |
 //! | `diff_text` | a text with a row for each difference, or `the worlds are the same` |
-//! | `compare` | the text, and a flag that says whether the worlds are the same |
+//! | `compare` | the text, and a flag that is true if the worlds are equal |
 //! | `diff_of` | that of the bytes of two histories or journals |
 //!
 //! Proved: the differences are exactly those of the definition, each once and in order, and the text is that of the

@@ -4,7 +4,6 @@ use Rattle.mud_roads.specs.declared.label.Step.{Step}
 pub use Rattle.mud_roads.specs.Walks.{exits_of}
 use Rattle.mud_roads.specs.Walks.{Roads, total, NoWalk, IsRoute}
 
--- the cost of a walk
 abbrev pub cost_of : List Step → ℕ
 cost_of steps = (total 1 steps).cost
 

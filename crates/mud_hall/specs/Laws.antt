@@ -33,8 +33,7 @@ HistoryGoesOn =
     → (more : List HallStep) (later : Hall) → IsRun capacity loaded hall more later
     → AreLoadable capacity later.history × IsPrefix hall.history later.history
 
--- from the world after the first entries of a history, the changes by the exits of a player's walk are all legal, and
--- the player ends where the walk leads
+-- from the world after some entries, the changes by the exits of a player's walk are legal, and end where it leads
 abbrev pub WalksGo : Type 0
 WalksGo =
     (h : List Entry) (v p from to : ℕ) (ss : List Step) → let w : State = world_after (take v h) in

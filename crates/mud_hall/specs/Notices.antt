@@ -7,7 +7,6 @@ use Rattle.mud_chron.specs.Entry.{Entry}
 use Rattle.mud_chron.specs.Replay.{changes_of}
 use Rattle.std.specs.Option.{option_map, option_and_then, option_to_list}
 
--- the world after a history
 abbrev pub world_after : List Entry → State
 world_after h = world_of (changes_of h)
 

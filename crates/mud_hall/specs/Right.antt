@@ -58,8 +58,7 @@ pub record TellsRoute (w : State) (p to : ℕ) (text : List ℕ) (cert : Option 
   pub text_is : text ≡ route_text to leg
   pub certified : IsSomeAnd cert (Certifies (leg ∷ []) (Route to (option_map cost_of leg.way)))
 
--- the text states the best meeting room by costs, or that there is none, and each best way; the certificate is about
--- those
+-- the text states the best meeting room and each best way, or that no room serves; the certificate is about those
 pub record TellsMeeting (w : State) (party : List ℕ) (text : List ℕ) (cert : Option Certificate) : Type 0 where
   pub place : Option Meeting
   pub legs : List Leg

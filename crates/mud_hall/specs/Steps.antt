@@ -85,8 +85,7 @@ pub record Turns (old : Hall) (s : ℕ) (was is : DeskState) (new : Hall) : Type
   pub known : IsPrefix is.seen new.history
   pub after : new ≡ seats old new.history s is
 
--- the history after a call: an accepted change is appended, and then the desk has seen all of it; otherwise it does not
--- change
+-- the history after a call: an accepted change is appended, and the desk has seen all; else the history stays
 abbrev pub Grows : Call → List Entry → DeskState → List Entry → Type 0
 Grows (Act line (Accepted version text)) old is new = (e : Entry) × (new ≡ old ++ e ∷ []) × (is.seen ≡ new)
 Grows other old is new = new ≡ old

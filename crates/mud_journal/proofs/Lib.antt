@@ -2,3 +2,4 @@ mod Grown
 pub mod Disks
 mod Finding
 mod Crashes
+pub mod Crosses

@@ -7,11 +7,11 @@ use std::sync::{Condvar, Mutex, Wait};
 
 // The state of the barrier: the requested version, and the result of the journal.
 #[derive(Drop)]
-struct Mark {
+struct Mark<J> {
     // The greatest version that was requested to be synced.
     wanted: usize,
     // The receipt of the last sync. A gate without a journal keeps the receipt for nothing.
-    synced: Receipt,
+    synced: Receipt<J>,
     // True once the journal accepts no more.
     has_failed: bool,
     // True once no more will be requested.
@@ -19,11 +19,12 @@ struct Mark {
     ghost of_journal: { synced.is_free ≡ false },
 }
 
-/// A commit barrier between the thread that writes the journal and the threads that wait for it. No other lock is taken
-/// while its lock is held. A gate without a journal is open: no thread waits at it, and its lock is not taken.
+/// A commit barrier between the thread that writes the journal that `J` names and the threads that wait for it. A
+/// receipt of another journal has another type. No other lock is taken while its lock is held. A gate without a journal
+/// is open: no thread waits at it, and its lock is not taken.
 #[derive(Drop)]
-pub struct Gate {
-    state: Mutex<Mark>,
+pub struct Gate<J> {
+    state: Mutex<Mark<J>>,
     is_open: bool,
     // Signalled when something is to be synced, or when the gate is closed.
     work: Condvar,
@@ -32,7 +33,7 @@ pub struct Gate {
 }
 
 // Returns a gate at which this much is synced.
-fn gate_at(synced: Receipt, is_open: bool) -> Gate
+fn gate_at<J>(synced: Receipt<J>, is_open: bool) -> Gate<J>
     requires { synced.is_free ≡ false }
     ensures { result.is_open ≡ is_open }
 {
@@ -49,16 +50,16 @@ fn gate_at(synced: Receipt, is_open: bool) -> Gate
     }
 }
 
-impl Gate {
+impl<J> Gate<J> {
     /// Returns the gate of a journal that has synced this much. A free receipt carries no information about a journal.
-    pub fn new(receipt: &Receipt) -> Gate
+    pub fn new(receipt: &Receipt<J>) -> Gate<J>
         ensures { result.is_open ≡ false }
     {
         gate_at(receipt.of_journal(), false)
     }
 
     /// Returns the gate of a server without a journal, at which everything counts as synced.
-    pub fn open() -> Gate
+    pub fn open() -> Gate<J>
         ensures { result.is_open ≡ true }
     {
         gate_at(Receipt::of_nothing(), true)
@@ -81,7 +82,7 @@ impl Gate {
 
     /// Waits until this many entries are synced. Returns no receipt if the journal fails before that. The receipt is
     /// free only if there is no journal.
-    pub fn wait_for<R: Wait>(&self, rt: &R, version: usize) -> Option<Receipt>
+    pub fn wait_for<R: Wait>(&self, rt: &R, version: usize) -> Option<Receipt<J>>
         ensures up_to { IfSome result (λ r. version ≤ r.up_to) }
         ensures of_journal { self.now.is_open ≡ false → IfSome result (λ r. r.is_free ≡ false) }
     {
@@ -90,9 +91,8 @@ impl Gate {
         }
         let mut state = self.state.lock(rt);
         for _ in rt.forever() {
-            let synced = state.synced;
-            if version <= synced.up_to() {
-                return Some(synced);
+            if version <= state.synced.up_to() {
+                return Some(state.synced.again());
             }
             if state.has_failed {
                 return None;
@@ -135,7 +135,7 @@ impl Gate {
 
     /// Releases the threads that wait for entries which are synced now. A free receipt carries no information, and
     /// releases no thread.
-    pub fn publish<R: Wait>(&self, rt: &R, receipt: &Receipt) {
+    pub fn publish<R: Wait>(&self, rt: &R, receipt: &Receipt<J>) {
         let synced = receipt.of_journal();
         let mut state = self.state.lock(rt);
         if state.synced.up_to() < synced.up_to() {

@@ -20,18 +20,19 @@ impl Telling for Anything {
     ghost up_to = { λ _ _. Unit {0} };
 }
 
-/// A text that mentions no version above the one that it is held for. Only a receipt for that version releases it.
+/// A text that mentions no version above the one that it is held for. Only a receipt of the journal that `J` names, for
+/// that version, releases it.
 #[derive(Drop)]
-pub struct Held<T: Telling = Anything> {
+pub struct Held<J, T: Telling = Anything> {
     text: Vec<u8>,
     version: usize,
-    of: PhantomData<T>,
+    of: PhantomData<(J, T)>,
     ghost tells: { ∥ T.up_to version text.items ∥₁ },
 }
 
-impl<T: Telling> Held<T> {
+impl<J, T: Telling> Held<J, T> {
     /// Withholds the text until this version is synced.
-    pub fn new(text: Vec<u8>, version: usize) -> Held<T>
+    pub fn new(text: Vec<u8>, version: usize) -> Held<J, T>
         requires tells { ∥ T.up_to version text.items ∥₁ }
         ensures text { result.text ≡ text }
         ensures version { result.version ≡ version }
@@ -58,7 +59,7 @@ impl<T: Telling> Held<T> {
     }
 
     /// Returns the text, given a receipt for its version.
-    pub fn open(self, receipt: &Receipt) -> Vec<u8>
+    pub fn open(self, receipt: &Receipt<J>) -> Vec<u8>
         requires { self.version ≤ receipt.now.up_to }
         ensures text { result ≡ self.text }
         ensures tells { ∥ T.up_to self.version result.items ∥₁ }

@@ -14,44 +14,62 @@ use crate::fault::{JournalFault, OpenFault};
 use mud_chron::{Entry, write_entry};
 use mud_world::limits::MOST_ENTRIES;
 use std::alloc::{AllocError, Global};
+use std::marker::PhantomData;
 
-/// A proof that this many entries are durable. A journal makes receipts. A gate without a journal makes a free one,
-/// which no disk backs.
-#[derive(Clone, Copy)]
-pub struct Receipt {
+/// The name of a journal that has no name yet.
+pub struct Nameless;
+
+/// A proof that this many entries of the journal that `J` names are durable. Only a journal of this name makes such
+/// receipts. A gate without a journal makes a free one, which no disk backs.
+#[derive(Drop)]
+pub struct Receipt<J> {
     up_to: usize,
     is_free: bool,
+    of: PhantomData<J>,
 }
 
-impl Receipt {
+impl<J> Receipt<J> {
     // Returns the receipt of a gate without a journal, at which no thread waits.
-    pub(crate) fn free() -> Receipt
-        ensures { result ≡ record { up_to = 18446744073709551615; is_free = true } }
+    pub(crate) fn free() -> Receipt<J>
+        ensures { (result.up_to ≡ 18446744073709551615) × (result.is_free ≡ true) }
     {
         Receipt {
             up_to: usize::MAX,
             is_free: true,
+            of: PhantomData,
         }
     }
 
     // Returns the receipt for no entries.
-    pub(crate) fn of_nothing() -> Receipt
-        ensures { result ≡ record { up_to = 0; is_free = false } }
+    pub(crate) fn of_nothing() -> Receipt<J>
+        ensures { (result.up_to ≡ 0) × (result.is_free ≡ false) }
     {
         Receipt {
             up_to: 0,
             is_free: false,
+            of: PhantomData,
         }
     }
 
-    // Returns the receipt itself, or the receipt for no entries if it is free.
-    pub(crate) fn of_journal(self) -> Receipt
+    // Returns a copy.
+    pub(crate) fn again(&self) -> Receipt<J>
+        ensures { result ≡ self.now }
+    {
+        Receipt {
+            up_to: self.up_to,
+            is_free: self.is_free,
+            of: PhantomData,
+        }
+    }
+
+    // Returns a copy, or the receipt for no entries if it is free.
+    pub(crate) fn of_journal(&self) -> Receipt<J>
         ensures { result.is_free ≡ false }
     {
         if self.is_free {
             Receipt::of_nothing()
         } else {
-            self
+            self.again()
         }
     }
 
@@ -73,12 +91,13 @@ pub struct Found<D> {
 }
 
 /// A disk with the text of this many entries, all written by this process. After a fault the journal accepts no more
-/// entries.
+/// entries. `J` is its name, which its receipts carry too.
 #[derive(Drop)]
-pub struct Journal<D: Appends> {
+pub struct Journal<J, D: Appends> {
     disk: D,
     count: usize,
     has_failed: bool,
+    of: PhantomData<J>,
 }
 
 // Appends the lines of the entries, the first with this version.
@@ -160,7 +179,11 @@ impl<D: Disk + Drop> Found<D> {
     /// Replaces the file by the text that was found and the lines of these further entries, and continues the journal.
     /// It does so whatever the disk held, because a crash may lose the bytes that were read, and torn bytes have to go.
     /// A crash meanwhile leaves the disk's old contents, or all of this text. So does an error, which returns the disk.
-    pub fn begin(self, alloc: Global, more: &[Entry]) -> Result<Journal<D>, (D, OpenFault)>
+    pub fn begin(
+        self,
+        alloc: Global,
+        more: &[Entry],
+    ) -> Result<Journal<Nameless, D>, (D, OpenFault)>
         ensures count { IfOk result (λ j. j.count ≡ self.count + length more.now) }
         ensures going { IfOk result (λ j. j.has_failed ≡ false) }
         ensures holds { IfOk result (λ j. (had : List Entry) → self.text.items ≡ journal_text Two had
@@ -183,13 +206,56 @@ impl<D: Disk + Drop> Found<D> {
                 disk,
                 count: count + more.len(),
                 has_failed: false,
+                of: PhantomData,
             }),
             Err(fault) => Err((disk, fault)),
         }
     }
 }
 
-impl<D: Appends + Drop> Journal<D> {
+impl<D: Appends + Drop> Journal<Nameless, D> {
+    /// Gives the journal its name. Receipts of another name open neither its gate nor a text that is held for it.
+    pub fn with_name<J>(self) -> Journal<J, D>
+        ensures disk { result.disk ≡ self.disk }
+        ensures count { result.count ≡ self.count }
+        ensures has_failed { result.has_failed ≡ self.has_failed }
+    {
+        let Journal {
+            disk,
+            count,
+            has_failed,
+            of: _,
+        } = self;
+        Journal {
+            disk,
+            count,
+            has_failed,
+            of: PhantomData,
+        }
+    }
+}
+
+impl<J, D: Appends + Drop> Journal<J, D> {
+    /// Takes the name from the journal, which makes no more receipts of it.
+    pub fn without_name(self) -> Journal<Nameless, D>
+        ensures disk { result.disk ≡ self.disk }
+        ensures count { result.count ≡ self.count }
+        ensures has_failed { result.has_failed ≡ self.has_failed }
+    {
+        let Journal {
+            disk,
+            count,
+            has_failed,
+            of: _,
+        } = self;
+        Journal {
+            disk,
+            count,
+            has_failed,
+            of: PhantomData,
+        }
+    }
+
     /// Returns the number of entries.
     pub fn len(&self) -> usize
         ensures { result ≡ self.now.count }
@@ -206,7 +272,7 @@ impl<D: Appends + Drop> Journal<D> {
 
     /// Appends entries with one write and one sync. A crash at any moment of the call leaves all earlier entries. After
     /// a fault they are still durable, and the journal does not touch the disk again.
-    pub fn commit(&mut self, alloc: Global, entries: &[Entry]) -> Result<Receipt, JournalFault>
+    pub fn commit(&mut self, alloc: Global, entries: &[Entry]) -> Result<Receipt<J>, JournalFault>
         ensures ok { OnOk result (Adds (D.kept self.old.disk) (D.kept self.new.disk) self.old.count entries.now) }
         ensures count { IfOk result (λ r. (self.new.count ≡ self.old.count + length entries.now)
             × (r.up_to ≡ self.new.count)) }
@@ -246,13 +312,14 @@ impl<D: Appends + Drop> Journal<D> {
     }
 
     /// Returns the receipt for its entries.
-    pub fn receipt(&self) -> Receipt
+    pub fn receipt(&self) -> Receipt<J>
         ensures up_to { result.up_to ≡ self.now.count }
         ensures of_journal { result.is_free ≡ false }
     {
         Receipt {
             up_to: self.count,
             is_free: false,
+            of: PhantomData,
         }
     }
 }

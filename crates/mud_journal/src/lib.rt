@@ -4,7 +4,9 @@
 //! that can be read, and [`recover`] for the bytes of a disk. [`Found::begin`] rewrites the text that was found,
 //! without torn bytes, and continues the journal. [`Journal::commit`] appends entries with one write and one sync, and
 //! returns a [`Receipt`]. A [`Gate`] is the commit barrier: it gets the receipts, and releases the threads that wait
-//! for them. A [`Held`] text is released only by a receipt for its version.
+//! for them. A [`Held`] text is released only by a receipt for its version. A receipt, a gate and a held text belong to
+//! one journal, by their type: a journal gets its name by [`Journal::with_name`], and those of another name are of
+//! another type.
 //!
 //! Threads: a journal belongs to one thread, which blocks on the disk in `commit`, and in `Gate::next` until something
 //! is to be synced or the gate is closed. All threads share the gate. `Gate::wait_for` blocks until the version is
@@ -32,5 +34,5 @@ pub use fault::{JournalFault, OpenFault};
 pub use file::{JournalFile, find_journal};
 pub use gate::Gate;
 pub use held::{Anything, Held, Telling};
-pub use journal::{Found, Journal, Receipt};
+pub use journal::{Found, Journal, Nameless, Receipt};
 pub use recovery::{found_in, recover};

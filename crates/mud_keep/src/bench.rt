@@ -7,6 +7,7 @@ use crate::printing::{
 use crate::refused::Refused;
 use crate::texts::kind_of;
 use crate::unkept::Unkept;
+use mud_chain::{Chain, NoChain, chain_of};
 use mud_cli::KeptFile;
 use mud_diff::{DiffText, NoDiff, diff_of};
 use mud_lines::{NoLines, Start, lines_of, part_lines_of};
@@ -14,7 +15,7 @@ use mud_survey::{Form, NoSurvey, survey_of, way_proof};
 use mud_undo::{NoUndo, Undone, without_changes, without_since};
 use std::process::ExitCode;
 
-// The exit status if two worlds differ, as of diff(1).
+// The exit status if two worlds differ, or two histories are no chain, as of diff(1).
 const DIFFERENT: u8 = 1;
 
 /// Surveys the world for these players, or for all if there is no word. Returns the exit status.
@@ -80,6 +81,40 @@ fn print_diff(rt: &HostRuntime, found: &DiffText) -> ExitCode {
     } else {
         ExitCode::from(DIFFERENT)
     }
+}
+
+/// Prints whether a history continues another one, and at which version. Returns the exit status.
+pub fn chain(rt: &HostRuntime, old: KeptFile<'_>, new: &str) -> ExitCode {
+    let before = match read_input(rt, old.name) {
+        Ok(bytes) => bytes,
+        Err(unkept) => return tell_unreadable(rt, unkept),
+    };
+    let after = match read_input(rt, new) {
+        Ok(bytes) => bytes,
+        Err(unkept) => return tell_unreadable(rt, unkept),
+    };
+    match chain_of(rt.alloc(), kind_of(old), &before, &after) {
+        Ok(found) => print_chain(rt, &found),
+        Err(NoChain::Old(fault)) => tell_unreadable_in(rt, old.name, Unkept::of_file(fault)),
+        Err(NoChain::New(fault)) => tell_unreadable_in(rt, new, Unkept::of_file(fault)),
+    }
+}
+
+// Prints the version at which a history continues another one, or that it does not. Returns the exit status.
+fn print_chain(rt: &HostRuntime, found: &Chain) -> ExitCode {
+    let (told, status) = match found.version {
+        Some(version) => (
+            println!(rt; "goes on at version {version}"),
+            ExitCode::SUCCESS,
+        ),
+        None => (println!(rt; "does not go on"), ExitCode::from(DIFFERENT)),
+    };
+    if told.is_err() {
+        return tell_unreadable(rt, Unkept::Write);
+    }
+    tell_torn(rt, found.torn.0);
+    tell_torn(rt, found.torn.1);
+    status
 }
 
 /// Prints the history without the changes of these versions. Returns the exit status.

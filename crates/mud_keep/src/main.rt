@@ -3,10 +3,11 @@
 //! `mud_keep recover JOURNAL` prints the history in a journal, `mud_keep shorten HISTORY` a shorter one of the same
 //! world, `mud_keep show HISTORY` the world as a table, and `mud_keep map HISTORY [PROOF]` its rooms and exits as a
 //! graph. `mud_keep survey HISTORY [PLAYER..]` prints what players can't reach, `mud_keep diff OLD NEW` the differences
-//! of two worlds, `mud_keep without HISTORY CHANGE..` the history without some of its changes, and `mud_keep lines
-//! HISTORY [ROOM..]` the lines that build its world or a part of it. With `--journal` the file is a journal instead of
-//! a history. Notes go to standard error. The exit status is 0 if there is a result, or 2 if not; `diff` exits with 1
-//! if the worlds differ. docs/KEEPING.md has the lines.
+//! of two worlds, and `mud_keep chain OLD NEW` whether the new history continues the old one. `mud_keep without HISTORY
+//! CHANGE..` prints the history without some of its changes, and `mud_keep lines HISTORY [ROOM..]` the lines that build
+//! its world or a part of it. With `--journal` the file is a journal instead of a history. Notes go to standard error.
+//! The exit status is 0 if there is a result, or 2 if not; `diff` exits with 1 if the worlds differ, and `chain` if the
+//! new history does not continue the old one. docs/KEEPING.md has the lines.
 #![tactic(auto)]
 
 mod bench;
@@ -16,7 +17,7 @@ mod refused;
 mod texts;
 mod unkept;
 
-use crate::bench::{diff, lines, part_lines, proof, survey, without, without_from};
+use crate::bench::{chain, diff, lines, part_lines, proof, survey, without, without_from};
 use crate::printing::tell_unreadable;
 use crate::texts::{map, picture, text};
 use crate::unkept::Unkept;
@@ -46,6 +47,7 @@ fn run(rt: &HostRuntime, words: &[String]) -> ExitCode {
         ) => survey(rt, file, &players, is_json),
         Ok(Keeping::Proof { file, player, room }) => proof(rt, file, player, room),
         Ok(Keeping::Diff { old, new }) => diff(rt, old, new),
+        Ok(Keeping::Chain { old, new }) => chain(rt, old, new),
         Ok(Keeping::Without { file, versions }) => without(rt, file, versions),
         Ok(Keeping::Since { file, first, by }) => without_from(rt, file, first, by),
         Ok(Keeping::Lines { file }) => lines(rt, file),

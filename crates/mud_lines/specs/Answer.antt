@@ -2,8 +2,7 @@
 use Rattle.std.specs.Prelude.{◌≡◌, ℕ, List, Option}
 use Rattle.mud_world.specs.State.{State}
 use Rattle.mud_compact.specs.declared.reading.TextKind.{TextKind}
-use Rattle.mud_compact.specs.Answer.{KeepsNoWorld}
-use Rattle.mud_diff.specs.Answer.{KeepsWorld}
+use Rattle.mud_compact.specs.Answer.{KeepsWorld, KeepsNoWorld}
 use Rattle.mud_lines.specs.declared.answering.NoLines.{NoLines}
 use Rattle.mud_lines.specs.declared.answering.NoLines.TheVariants.{History}
 use Rattle.mud_lines.specs.Typing.{LeadTo, lines_text}

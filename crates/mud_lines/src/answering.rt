@@ -2,9 +2,8 @@
 
 ghost use Rattle.std.specs.Prelude.{◌≡◌, map, MatchOption, IfOk, IfErr, string_bytes};
 ghost use Rattle.mud_compact.specs.Recovery.{KeepsEntries};
-ghost use Rattle.mud_compact.specs.Answer.{KeepsNoWorld};
+ghost use Rattle.mud_compact.specs.Answer.{KeepsWorld, KeepsNoWorld};
 ghost use Rattle.mud_world.specs.State.{State};
-ghost use Rattle.mud_diff.specs.Answer.{KeepsWorld};
 ghost use Rattle.mud_lines.specs.Answer.{IsTextTo, IsBuilt, HasNoLines};
 ghost use Rattle.mud_lines.specs.Typing.{lines_text};
 ghost use Rattle.mud_lines.specs.inner.Faults.{IsOther};

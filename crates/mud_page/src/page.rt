@@ -2,9 +2,9 @@
 
 /// The whole answer to a browser that asks for the page: its head, and the page after it.
 pub const PAGE: &[u8] = b"\
-HTTP/1.1 200 OK\r\nConnection: close\r\nContent-Type: text/html; charset=utf-8\r\nContent-Length: 99751\r\nCon\
+HTTP/1.1 200 OK\r\nConnection: close\r\nContent-Type: text/html; charset=utf-8\r\nContent-Length: 99773\r\nCon\
 tent-Security-Policy: default-src 'none'; connect-src 'self'; style-src 'sha256-cBQcWk4M6QKfMrmBWkqSaWHG5ioSJZ\
-+D+DCnu1V/t88='; script-src 'sha256-aOWtd/v7LxbaYEt3tEQ0kSbpL9HQMtBFh+6iIJhRxIs='; base-uri 'none'; form-actio\
++D+DCnu1V/t88='; script-src 'sha256-D36387DRY1Vm/Bh0rVZk2kN+eEoxG0VbUZPljMOICdc='; base-uri 'none'; form-actio\
 n 'none'; frame-ancestors 'none'; require-trusted-types-for 'script'\r\nCross-Origin-Opener-Policy: same-origi\
 n\r\nCross-Origin-Resource-Policy: same-origin\r\nReferrer-Policy: no-referrer\r\nX-Content-Type-Options: nosn\
 iff\r\nX-Frame-Options: DENY\r\nCache-Control: no-cache\r\n\r\n<!doctype html><html lang=en><head><meta charse\
@@ -332,600 +332,600 @@ and the way of each\"],[\"`proof LINE`\",\"the proof of that route or meeting\"]
 \"],[\"`@history`\",\"the changes that led to this world\"],[\"`quit`\",\"you leave\"],[\"any other line\",\"y\
 ou walk through that exit\"]];\nlet SAID={reply:/^\\[(\\d+)\\] (.*?)$/,notice:/^\\((\\d+)\\) (.*?)$/,failed:/^\
 (?:\\(history full\\)|\\(not stored\\)|\\(out of memory\\)|\\(line too long\\))$/,elsewhere:/^403 Forbidden: t\
-his world is played at (.*?)$/,ended:/^(?:\\(server stops\\)|\\(journal fault\\))$/,host:/^\\(host: (.*?)\\)$/\
-,volume:/^\\(volume (\\d+)\\)$/,welcome:/^welcome #(\\d+)$/,walked:/^went by #(\\d+) to #(\\d+)$/,dug:/^dug (.\
-*?)$/,newRoom:/^room #(\\d+)$/,newExit:/^exit #(\\d+)$/,newBack:/^exit back #(\\d+)$/,made:/^made #(\\d+)$/,re\
-named:/^renamed #(\\d+)$/,recycled:/^recycled #(\\d+)$/,unlocked:/^unlocked #(\\d+)$/,locked:/^(?:That exit is\
-\x20locked\\.|That place is locked\\.)$/,refused:/^(?:(.*?)\\.|(.*?)\\?)$/,named:/^(.*?) #(\\d+)$/,contents:/^\
-\x20 contents (.*?)$/,exits:/^  exits (.*?)$/,leads:/^  from #(\\d+) to #(\\d+) cost (\\d+)$/,held:/^inventory\
-\x20(.*?)$/,bye:/^bye$/,heard:/^(?:(.*?) says, \"(.*?)\"|(.*?) arrives\\.|(.*?) leaves by (.*?)\\.)$/,route:/^\
-route #(\\d+) to #(\\d+) cost (\\d+) by(.*?)$/,noWay:/^route #(\\d+) to #(\\d+) no way$/,meeting:/^(?:meet (.*\
-?) at #(\\d+) cost (\\d+)|meet (.*?) no meeting)$/,history:/^history$/,historyEnd:/^end (\\d+)$/,proof:/^proof\
-$/,proofEnd:/^end$/};\nlet WORDS={connect:[\"connect\"],look:[\"look\",\"l\"],go:[\"go\"],dig:[\"@dig\"],creat\
-e:[\"@create\"],rename:[\"@rename\"],route:[\"route\"],meet:[\"meet\"],proof:[\"proof\"],to:[\"to\",\"at\"],co\
-mma:[\", \"],hall:[\"The Hall\"]};\n\nlet MOST_TYPED=1000,MOST_NAMES=2000;\nfunction typed(line){return line.r\
-eplace(/\\t/g,\" \").replace(/[^ -~]/g,\"\").slice(0,MOST_TYPED)}\nfunction words(line){return line.trim().spl\
-it(/ +/).join(\" \")}\nclass World{constructor(){this.rooms=new Map();this.exits=new Map();this.ties=new Map()\
-;this.visited=new Set();this.things=new Map();this.people=new Set();this.me=$;this.here=$;this.route=[];this.w\
-alked=0;this.revision=0;this.age=0}clear(){for(let kept of[this.rooms,this.exits,this.ties,this.visited,this.t\
-hings,this.people])kept.clear();this.plan([]);this.age+=1}room(number,name){let known=this.rooms.get(number);i\
-f(this.rooms.has(number)&&(name===$||name===known))return;this.rooms.set(number,name??known);this.revision+=1}\
-exit(number,told){let known=this.exits.get(number)??{},exit={...known,...told};if(this.exits.has(number)&&Obje\
-ct.keys(told).every(key=>known[key]===told[key]))return;this.untie(number);this.exits.set(number,exit);for(let\
-\x20room of[exit.from,exit.to])if(room!==$)this.tie(number,room);this.revision+=1}tie(exit,room){this.room(roo\
-m);if(!this.ties.has(room))this.ties.set(room,new Set());this.ties.get(room).add(exit)}untie(number){let{from,\
-to}=this.exits.get(number)??{};this.ties.get(from)?.delete(number);this.ties.get(to)?.delete(number)}exitsOf(r\
-oom){let ties=[...this.ties.get(room)??[]];return ties.filter(exit=>this.exits.get(exit).from===room).sort((a,\
-b)=>a-b)}arrive(room){this.here=room;this.room(room);this.visited.add(room);this.revision+=1}forget(number){fo\
-r(let exit of[number,...this.ties.get(number)??[]]){this.untie(exit);this.exits.delete(exit)}for(let kept of[t\
-his.rooms,this.ties,this.visited,this.things])kept.delete(number);if(this.route.some(exit=>!this.exits.has(exi\
-t)))this.plan([]);this.revision+=1}plan(exits){this.route=exits;this.walked=0;this.revision+=1}thing(number,na\
-me){this.things.set(number,name);if(this.things.size>MOST_NAMES)this.things.delete(this.things.keys().next().v\
-alue)}heard(name){this.people.add(name);if(this.people.size>MOST_NAMES)this.people.delete(this.people.values()\
-.next().value)}exitNamed(text,whole){let number=text.match(/^#(\\d{1,9})$/);if(number)return this.exits.has(Nu\
-mber(number[1]))?Number(number[1]):$;let own=this.exitsOf(this.here).filter(exit=>this.exits.get(exit).name!==\
-$),named=test=>own.filter(exit=>test(this.exits.get(exit).name.toLowerCase())),wanted=text.toLowerCase(),same=\
-named(name=>name===wanted),found=same.length||whole?same:named(name=>name.startsWith(wanted));return found.len\
-gth===1?found[0]:$}kept(){let{rooms,exits,visited,things,people,me,route,walked}=this;return{rooms:[...rooms],\
-exits:[...exits],visited:[...visited],things:[...things],people:[...people],me,route,walked}}static from({room\
-s,exits,visited,things,people,me,route,walked}){let world=new World();for(let[number,name]of rooms)world.room(\
-number,name??$);for(let[number,exit]of exits)world.exit(number,exit);Object.assign(world,{visited:new Set(visi\
-ted),things:new Map(things),people:new Set(people),me});return Object.assign(world,{route,walked})}}\n\nfuncti\
-on behind(verb,line=\"\"){let[,first,rest]=line.match(/^(\\S*) *([^]*)$/);return WORDS[verb].includes(first.to\
-LowerCase())?rest:$}\nfunction aroundTo(text=\"\"){let[first,...rest]=text.split(new RegExp(` (${WORDS.to.join\
-(\"|\")}) `,\"i\"));return[first,rest.slice(1).join(\" \")]}\nfunction listed(text){return text.split(WORDS.co\
-mma[0]).map(one=>one.match(SAID.named)).filter(Boolean).map(([,name,number])=>[Number(number),name])}\nfunctio\
-n firstName(text=\"\"){let name=text.replace(/\"/g,\"\").split(\",\")[0].trim();return name===\"\"?$:name}\nfu\
-nction isRefusal(lines){return lines.length===1&&SAID.refused.test(lines[0])}\nfunction isLook(line){return be\
-hind(\"look\",line)===\"\"}\nfunction headOf({kind,line,lines:[text]}){let heads=behind(\"look\",line)===$?Obj\
-ect.keys(READERS):[\"named\"];return kind===\"reply\"?heads.find(name=>SAID[name].test(text)):$}\nfunction rea\
-dLook(world,[,number],line,lines){let[,name]=lines[0].match(SAID.named),isHere=isLook(line),further=row=>lines\
-.slice(1).map(one=>one.match(SAID[row])).find(Boolean),exits=further(\"exits\"),contents=further(\"contents\")\
-,way=further(\"leads\");if(contents)for(let[thing,called]of listed(contents[1]))world.thing(thing,called);if(w\
-ay)world.exit(number,{name,from:Number(way[1]),to:Number(way[2])});if(isHere)world.arrive(number);if(isHere||e\
-xits||world.rooms.has(number))readRoom(world,number,name,exits?listed(exits[1]):[]);else if(!way)world.thing(n\
-umber,name)}\nfunction readRoom(world,number,name,exits){world.room(number,name);let now=new Map(exits);for(le\
-t exit of world.exitsOf(number))if(!now.has(exit))world.forget(exit);for(let[exit,called]of now)world.exit(exi\
-t,{name:called,from:number})}\nfunction readDug(world,_,line,[text]){let[doors,named]=aroundTo(behind(\"dig\",\
-line)),[out,back]=doors.split(\"|\").map(firstName),made=text.match(SAID.dug)[1].split(WORDS.comma[0]),[room,e\
-xit,other]=[\"newRoom\",\"newExit\",\"newBack\"].map(row=>made.map(one=>one.match(SAID[row])?.[1]).find(Boolea\
-n)).map(one=>one&&Number(one)),old=named.match(/^\"?#(\\d{1,9})\"?$/),to=room??(old?Number(old[1]):$);if(room)\
-world.room(to,firstName(named||doors));if(exit)world.exit(exit,{name:out,from:world.here,to});if(other)world.e\
-xit(other,{name:back,from:to,to:world.here})}\nfunction readWalk(world,[exit,to]){world.exit(exit,world.here==\
-=$?{to,locked:!1}:{from:world.here,to,locked:!1});let isNext=world.route[world.walked]===exit;world.arrive(to)\
-;if(isNext)world.walked+=1}\nfunction readLocked(world,_,line){let exit=world.exitNamed(behind(\"go\",line)??l\
-ine,behind(\"go\",line)===$);if(exit!==$)world.exit(exit,{locked:!0})}\nfunction readRenamed(world,[number],li\
-ne){let name=firstName(aroundTo(behind(\"rename\",line))[1]);if(name===$)return;if(world.rooms.has(number))wor\
-ld.room(number,name);if(world.exits.has(number))world.exit(number,{name});if(world.things.has(number))world.th\
-ing(number,name)}\nfunction exitsOnWay(text){return[...(text.match(SAID.route)?.[4]??\"\").matchAll(/#(\\d+)/g\
-)].map(([,exit])=>Number(exit))}\nfunction readMade(world,[number],line){let name=firstName(behind(\"create\",\
-line));if(name!==$)world.thing(number,name)}\nfunction readHeld(world,_,line,[text]){for(let[thing,name]of lis\
-ted(text.match(SAID.held)[1]))world.thing(thing,name)}\nfunction readHistory(world,_,line,lines){let objects=c\
-hecker.told(lines.slice(1).join(\"\\n\")+\"\\n\"),{me,visited,route}=world;if(!objects)return;let locked=[...w\
-orld.exits.keys()].filter(exit=>world.exits.get(exit).locked);for(let kept of[world.rooms,world.exits,world.ti\
-es])kept.clear();for(let{number,name,isRoom,isExit,from,to}of objects)if(isRoom)world.room(number,name??WORDS.\
-hall[0]);else if(isExit)world.exit(number,{name,from,to});else if(name)world.thing(number,name);for(let exit o\
-f locked)if(world.exits.has(exit))world.exit(exit,{locked:!0});for(let room of visited)if(!world.rooms.has(roo\
-m))visited.delete(room);let here=objects.find(({number})=>number===me)?.place??world.here;if(here!==$)world.ar\
-rive(here);if(route.some(exit=>!world.exits.has(exit)))world.plan([])}\nlet READERS={welcome:(world,[me])=>Obj\
-ect.assign(world,{me,here:$}),walked:readWalk,dug:readDug,made:readMade,renamed:readRenamed,locked:readLocked,\
-held:readHeld,recycled:(world,[number])=>world.forget(number),unlocked:(world,[number])=>world.exits.has(numbe\
-r)&&world.exit(number,{locked:!1}),route:(world,_,line,[text])=>world.plan(exitsOnWay(text)),noWay:world=>worl\
-d.plan([]),history:readHistory,meeting(){},proof(){},bye(){},};\nfunction readAnswer(world,entry){let{line,lin\
-es}=entry,head=headOf(entry);if(head)(READERS[head]??readLook)(world,lines[0].match(SAID[head]).slice(1).map(N\
-umber),line,lines)}\nfunction readNotice(world,text){let heard=text.match(SAID.heard);if(heard)world.heard(hea\
-rd.slice(1).find(Boolean))}\n\nlet MOST_PROOFS=100;\nclass Conversation{constructor(world){this.world=world??n\
-ew World();this.history=$;this.proofs=[];this.onAnswer=()=>{};this.onEnd=()=>{};this.volume=1;this.connectLine\
-=$;this.name=$;this.begin()}begin(){this.end();this.tail=\"\";this.asked??=[];this.drop();this.answer=$;this.h\
-asLeft=!1;this.isIn=!1;this.before={volume:this.volume,version:this.latest};this.latest=0;this.told=1;this.wor\
-ld.here=$}say(line,quiet=!1,answered=$){if(words(line)!==\"\")this.asked.push({line:words(line),quiet,answered\
-})}drop(){for(let{answered}of this.asked.splice(0))answered?.()}take(piece){let lines=(this.tail+piece).split(\
-\"\\r\\n\"),entries=new Set();this.tail=lines.pop();for(let text of lines){let entry=this.takeLine(text);if(en\
-try&&!entry.quiet)entries.add(entry)}if(this.tail===\"\")this.finish();return[...entries]}takeLine(text){let n\
-otice=text.match(SAID.notice),reply=text.match(SAID.reply);if(notice)return this.takeNotice(text,Number(notice\
-[1]),notice[2]);if(reply)return this.takeReply(Number(reply[1]),reply[2]);if(SAID.failed.test(text))return thi\
-s.takeRefusal(text);if(SAID.volume.test(text))this.takeVolume(Number(text.match(SAID.volume)[1]));if([\"volume\
-\",\"host\",\"ended\"].some(row=>SAID[row].test(text)))return{kind:\"host\",lines:[text]};if(!this.answer)retu\
-rn{kind:\"greeting\",lines:[text]};this.answer.lines.push(text);return this.answer}takeVolume(volume){this.tol\
-d=volume;this.reach(0)}reach(version){let{volume}=this;this.end();this.volume=this.told;this.latest=volume===t\
-his.told?Math.max(this.latest,version):version;if(volume!==this.told)this.giveUp(volume)}giveUp(volume){this.h\
-istory=$;this.onEnd(volume,this.proofs.splice(0))}takeNotice(text,version,heard){this.reach(version);readNotic\
-e(this.world,heard);return{kind:\"notice\",lines:[text],version}}takeReply(version,text){this.reach(version);l\
-et asked=this.asked.shift()??{line:\"\",quiet:!1};this.answer={kind:\"reply\",version,volume:this.volume,...as\
-ked,lines:[text],isDone:!1};return this.answer}takeRefusal(text){this.end();let asked=this.asked.shift()??{lin\
-e:\"\",quiet:!1},refusal={kind:\"refusal\",...asked,lines:[text],isDone:!0};this.onAnswer(refusal);return refu\
-sal}finish(){if(this.answer&&isWhole(this.answer))this.done(this.answer)}done(answer){let isFirst=!answer.isDo\
-ne,{length}=answer.lines;if(answer.read===length)return;Object.assign(answer,{isDone:!0,read:length});this.rea\
-d(answer);if(!isFirst)return;this.keep(answer);this.onAnswer(answer)}read(answer){let{line,lines,quiet}=answer\
-,head=headOf(answer);if(!quiet&&isWhole(answer))readAnswer(this.world,answer);if(head===\"bye\")this.hasLeft=!\
-0;if(head!==\"welcome\")return;if(isBefore(answer,this.before)){this.world.clear();this.giveUp(this.volume)}th\
-is.isIn=!0;this.connectLine=line;this.name=firstName(behind(\"connect\",line)?.replace(/^([^\" ]+) .*$/,\"$1\"\
-))}since({volume,version}){return volume===this.volume?this.latest-version:Infinity}end(){if(this.answer)this.\
-done(this.answer);this.answer=$}keep(answer){let{version,lines}=answer,text=lines.slice(1).join(\"\\n\")+\"\\n\
-\",head=headOf(answer);if(!isWhole(answer))return;if(head===\"history\")this.history={version,text};if(head!==\
-\"proof\")return;this.proofs.push({version,text});if(this.proofs.length>MOST_PROOFS)this.proofs.shift()}}\nfun\
-ction isBefore(one,other){return one.volume<other.volume||(one.volume===other.volume&&one.version<other.versio\
-n)}\nfunction isWhole(answer){return SAID[`${headOf(answer)}End`]?.test(answer.lines.at(-1))??!0}\n\nlet LONGE\
-ST_STEP=10,STRETCH=16,MOST_WEIGHED=5,PER_WAY=2,MOST_WORK=3000,SIDE=1<<14,MIDDLE=SIDE/2,KEPT_WAY=100,PASSED=8,B\
-ESIDE=12,STEPS=new Map(Object.entries({north:[0,-1,0],south:[0,1,0],east:[1,0,0],west:[-1,0,0],northeast:[1,-1\
-,0],northwest:[-1,-1,0],southeast:[1,1,0],southwest:[-1,1,0],up:[0,0,1],down:[0,0,-1],n:[0,-1,0],s:[0,1,0],e:[\
-1,0,0],w:[-1,0,0],ne:[1,-1,0],nw:[-1,-1,0],se:[1,1,0],sw:[-1,1,0],u:[0,0,1],d:[0,0,-1],}));\nfunction stepOf(e\
-xit){let{name}=exit;if(name===$||name.length>LONGEST_STEP)return $;return STEPS.get(name)??STEPS.get(name.toLo\
-werCase().replace(/^(north|south)[ -](east|west)$/,\"$1$2\"))}\nfunction isAlong([x,y,z],[dx,dy,dz]){if(dz)ret\
-urn Math.sign(z)===dz;return z===0&&Math.sign(x)===dx&&Math.sign(y)===dy&&(!dx||!dy||Math.abs(x)===Math.abs(y)\
-)}\nlet AROUND=[];\nfor(let x=-9;x<=9;x+=1)for(let y=-9;y<=9;y+=1)if(x||y)AROUND.push([x,y]);\nlet askew=([x,y\
-])=>Math.hypot(x,y)+(x&&y?0:0.9);\nAROUND.sort((a,b)=>askew(a)-askew(b));\nfunction keyOf(x,y,z){return((z+MID\
-DLE)*SIDE+x+MIDDLE)*SIDE+y+MIDDLE}\nclass Sheet{constructor(){this.rooms=new Map();this.passed=new Map();this.\
-spent=new Map();this.right=this.low=0}isFree([x,y,z]){return!this.rooms.has(keyOf(x,y,z))}put(room,[x,y,z]){th\
-is.rooms.set(keyOf(x,y,z),room);this.right=Math.max(this.right,x);this.low=Math.max(this.low,y)}candidate([x,y\
-,z],step,number){let up=step?step[2]:0,straight=!step?0:up?1:STRETCH,far=number+1;if(number<straight)return up\
-?[x,y,z+up]:[x+step[0]*far,y+step[1]*far,z];let round=AROUND[number-straight];return round?[x+round[0],y+round\
-[1],z+up]:[this.right+far-straight-AROUND.length,y,z+up]}some(cell,step){let name=`${cell} ${step}`,found=[];f\
-or(let number=this.spent.get(name)??0;found.length<PER_WAY;number+=1){let one=this.candidate(cell,step,number)\
-;if(this.isFree(one))found.push(one);else if(!found.length)this.spent.set(name,number+1)}return found}}\nfunct\
-ion passed([x,y,z],[x2,y2,z2],fits){let count=z===z2?Math.max(Math.abs(x2-x),Math.abs(y2-y)):0,found=0;if(coun\
-t>2*STRETCH)return found;for(let at=1;at<count;at+=1){let across=x+(x2-x)*at/count,down=y+(y2-y)*at/count;if(f\
-its(keyOf(Math.round(across),Math.round(down),z)))found+=1}return found}\nclass Layout{constructor(){this.cell\
-s=new Map();this.work=0}has(sheet){return[...this.cells.values()].some(cell=>cell.sheet===sheet)}cell(room){le\
-t cell=this.cells.get(room),hall=this.cells.get(0);if(!cell)return $;let[x,y,z]=hall?.sheet===cell.sheet?hall.\
-at:[0,0,0];return{sheet:cell.sheet,x:cell.at[0]-x,y:cell.at[1]-y,z:cell.at[2]-z}}update(world){for(let[room,{s\
-heet,at}]of this.cells){if(world.rooms.has(room))continue;sheet.rooms.delete(keyOf(...at));this.cells.delete(r\
-oom)}let fresh=[...world.rooms.keys()].filter(room=>!this.cells.has(room)).sort((a,b)=>a-b);let most=this.work\
-+MOST_WORK;this.spread(world,fresh.flatMap(room=>this.neighbours(world,room).filter(({cell})=>cell).map(({step\
-})=>({other:room,step}))),most);for(let room of fresh){if(this.cells.has(room))continue;if(this.work>=most)ret\
-urn!1;this.settle(room,new Sheet(),[0,0,0],[]);this.spread(world,this.neighbours(world,room),most)}return this\
-.joinAll(world,most)}neighbours(world,room){let found=[];for(let number of world.ties.get(room)??[]){let exit=\
-world.exits.get(number),isOut=exit.from===room,other=isOut?exit.to:exit.from;if(other===$||other===room)contin\
-ue;let step=stepOf(exit);found.push({other,cell:this.cells.get(other),step:isOut?step?.map(one=>-one):step})}r\
-eturn found}spread(world,ways,most){let named=[],other=[],seen=new Set(),sort=({other:room,cell,step})=>{let k\
-ey=step?-room-1:room;if(cell||seen.has(key))return;seen.add(key);(step?named:other).push(room)};ways.forEach(s\
-ort);for(let first=0,second=0;first<named.length||second<other.length;){if(this.work>=most)return;let room=fir\
-st<named.length?named[first++]:other[second++];if(this.cells.has(room))continue;let near=this.neighbours(world\
-,room);this.place(room,near.filter(({cell})=>cell));near.forEach(sort)}}place(room,placed){let first=placed.fi\
-nd(({step})=>step)??placed[0],{sheet}=first.cell,ways=[first,...placed].filter(({cell})=>cell.sheet===sheet).s\
-lice(0,MOST_WEIGHED),best,most=-Infinity;for(let{cell:{at},step}of ways)for(let cell of sheet.some(at,step)){l\
-et worth=this.worth(sheet,cell,ways);if(worth>most)[best,most]=[cell,worth]}this.settle(room,sheet,best,ways)}\
-settle(room,sheet,at,ways){let pass=key=>sheet.passed.set(key,(sheet.passed.get(key)??0)+1);sheet.put(room,at)\
-;this.cells.set(room,{sheet,at});this.work+=1;for(let{cell}of ways)passed(cell.at,at,pass)}worth(sheet,cell,wa\
-ys){let isTaken=key=>sheet.rooms.has(key),worth=-BESIDE*(sheet.passed.get(keyOf(...cell))??0);for(let{cell:{at\
-},step}of ways){let apart=cell.map((one,axis)=>one-at[axis]);this.work+=1;if(step&&isAlong(apart,step))worth+=\
-KEPT_WAY;worth-=Math.abs(apart[0])+Math.abs(apart[1])+(apart[2]&&!step?KEPT_WAY:0);worth-=PASSED*passed(at,cel\
-l,isTaken)}return worth}joinAll(world,most){let apart=[...world.exits.values()].filter(({from,to})=>{let[a,b]=\
-[this.cells.get(from),this.cells.get(to)];return a&&b&&a.sheet!==b.sheet});for(let exit of[...apart.filter(ste\
-pOf),...apart.filter(exit=>!stepOf(exit))]){if(this.work>=most)return!1;this.join(exit)}return!0}join(exit){le\
-t from=this.cells.get(exit.from),to=this.cells.get(exit.to),step=stepOf(exit);if(from.sheet===to.sheet)return;\
-let isFirst=from.sheet.rooms.size>=to.sheet.rooms.size,[stays,goes]=isFirst?[from,to]:[to,from],way=step&&!isF\
-irst?step.map(one=>-one):step;this.move(goes.sheet,stays.sheet,this.offset(stays,goes,way))}offset(stays,goes,\
-step){let rooms=[...goes.sheet.rooms.values()].map(room=>this.cells.get(room).at);for(let number=0;;number+=1)\
-{let cell=stays.sheet.candidate(stays.at,step,number),apart=cell.map((one,axis)=>one-goes.at[axis]),isFree=roo\
-ms.every(at=>{this.work+=1;return stays.sheet.isFree(at.map((one,axis)=>one+apart[axis]))});if(isFree)return a\
-part}}move(sheet,target,apart){for(let room of sheet.rooms.values()){let at=this.cells.get(room).at.map((one,a\
-xis)=>one+apart[axis]);target.put(room,at);this.cells.set(room,{sheet:target,at})}}kept(){let sheets=[...new S\
-et([...this.cells.values()].map(({sheet})=>sheet))];return[...this.cells].map(([room,{sheet,at}])=>[room,sheet\
-s.indexOf(sheet),...at])}static from(kept){let layout=new Layout(),sheets=[];for(let[room,number,...at]of kept\
-)layout.settle(room,sheets[number]??=new Sheet(),at,[]);return layout}}\n\nlet MOST_ROOMS=800,MOST_WAYS=2000,M\
-OST_LABELS=600,MOST_LISTED=500,MOST_NAMED=40,LETTER=7.3,LINE=15,CELL={wide:190,tall:108},BOX={wide:118,tall:42\
-},STUB=26,TWO_LINES=34,ONE_LINE=17,LABELLED=0.7,BEND=0.62,LONGEST=18,BUCKET=96,SPOTS=[[0,1],[0,-1],[1,1],[1,-1\
-]],ASIDE=[[1,1],[-1,1],[1,-1],[-1,-1],[1,0],[-1,0]];\nfunction short(text,most){return text.length>most?text.s\
-lice(0,Math.max(1,most-2))+\"..\":text}\nfunction around(x,y,wide,tall){return{x:x-wide/2,y:y-tall/2,wide,tall\
-}}\nfunction overlap(a,b){return a.x<b.x+b.wide&&b.x<a.x+a.wide&&a.y<b.y+b.tall&&b.y<a.y+a.tall}\nclass Taken{\
-constructor(){this.squares=new Map()}isFree(box){let{x,y,wide,tall}=box;for(let across=Math.floor(x/BUCKET);ac\
-ross<=(x+wide)/BUCKET;across+=1)for(let down=Math.floor(y/BUCKET);down<=(y+tall)/BUCKET;down+=1){let square=th\
-is.squares.get(across*4096+down);if(square&&square.some(other=>overlap(box,other)))return!1}return!0}add(box){\
-let{x,y,wide,tall}=box;for(let across=Math.floor(x/BUCKET);across<=(x+wide)/BUCKET;across+=1)for(let down=Math\
-.floor(y/BUCKET);down<=(y+tall)/BUCKET;down+=1){let key=across*4096+down;if(this.squares.has(key))this.squares\
-.get(key).push(box);else this.squares.set(key,[box])}}}\nfunction kindOf(world,room){if(room===world.here)retu\
-rn\"here\";if(world.visited.has(room))return\"seen\";let ways=[...world.ties.get(room)??[]].map(exit=>world.ex\
-its.get(exit)).filter(({to})=>to===room);return ways.length&&ways.every(({locked})=>locked)?\"locked\":\"heard\
-\"}\nfunction sizeOf({scale}){return{wide:BOX.wide*scale,tall:BOX.tall*scale}}\nfunction middleOf({x,y,scale,w\
-ide,tall},cell){return[wide/2+(cell.x-x)*CELL.wide*scale,tall/2+(cell.y-y)*CELL.tall*scale]}\nfunction boxesOf\
-(world,layout,view){let{wide,tall}=view,size=sizeOf(view),boxes=[],count=0;for(let room of layout.cells.keys()\
-){let cell=layout.cell(room);if(cell.sheet!==view.sheet||cell.z!==view.floor)continue;count+=1;let[x,y]=middle\
-Of(view,cell);if(Math.abs(x-wide/2)>wide/2+size.wide||Math.abs(y-tall/2)>tall/2+size.tall)continue;boxes.push(\
-{room,middle:[x,y],...around(x,y,size.wide,size.tall)})}let far=({middle:[x,y],room})=>room===world.here?-1:Ma\
-th.hypot(x-wide/2,y-tall/2);if(boxes.length>MOST_ROOMS)boxes.sort((a,b)=>far(a)-far(b)).length=MOST_ROOMS;for(\
-let box of boxes)Object.assign(box,{kind:kindOf(world,box.room),lines:linesOf(world,box),marks:[]});return{box\
-es,count}}\nfunction linesOf(world,{room,wide,tall}){let most=Math.floor((wide-8)/LETTER),name=world.rooms.get\
-(room)??\"?\";if(tall>=TWO_LINES)return[short(name,most),`#${room}`];return tall>=ONE_LINE&&most>=3?[short(nam\
-e,most)]:[]}\nfunction bundlesOf(world,places){let bundles=new Map();for(let room of places.keys())for(let num\
-ber of world.ties.get(room)??[]){let exit=world.exits.get(number),{from,to}=exit;if(from===$||(from!==room&&pl\
-aces.has(from)))continue;let key=to===$?-number:Math.min(from,to)*65536+Math.max(from,to);if(bundles.has(key))\
-bundles.get(key).exits.push([number,exit]);else if(bundles.size<MOST_WAYS)bundles.set(key,{from,to,exits:[[num\
-ber,exit]]})}return[...bundles.values()]}\nfunction edge({middle:[x,y],wide,tall},dx,dy){let part=Math.min(dx?\
-wide/2/Math.abs(dx):Infinity,dy?tall/2/Math.abs(dy):Infinity);return[x+dx*part,y+dy*part]}\nfunction labelOf(e\
-xits,most){let[,{name}]=exits[0];return short(name??\"?\",most)+(exits.length>1?` +${exits.length - 1}`:\"\")}\
-\nclass Picture{constructor(world,layout,view){Object.assign(this,{world,layout,view,ways:[],labels:[],taken:n\
-ew Taken(),aside:new Map()});Object.assign(this,boxesOf(world,layout,view));this.places=new Map(this.boxes.map\
-(box=>[box.room,box]));for(let box of this.boxes)this.taken.add(box);let bundles=bundlesOf(world,this.places);\
-for(let bundle of bundles)if(this.ways.length<MOST_WAYS)this.draw(bundle);this.isWhole=this.boxes.length<MOST_\
-ROOMS&&Math.max(bundles.length,this.ways.length)<MOST_WAYS}boxOf(room){let cell=this.layout.cell(room);return \
-this.places.get(room)??(cell&&{middle:middleOf(this.view,cell),room,...sizeOf(this.view)})}draw({from,to,exits\
-}){let out=exits.filter(([,exit])=>exit.from===from);if(to===$||to===from)return out.forEach(one=>this.drawStu\
-b(this.places.get(from),one));let back=exits.filter(([,exit])=>exit.from!==from),a=this.layout.cell(from),b=th\
-is.layout.cell(to);if(!a||!b||a.sheet!==b.sheet)return this.drawAway(out,back);if(a.z===b.z)return this.drawWa\
-y(this.boxOf(from),this.boxOf(to),out,back);if(a.z===this.view.floor)this.drawFloor(this.places.get(from),out,\
-b.z>a.z);if(b.z===this.view.floor)this.drawFloor(this.places.get(to),back,a.z>b.z)}drawAway(out,back){let draw\
-n=[...out,...back].filter(([,{from}])=>this.places.has(from));for(let one of drawn)this.drawStub(this.places.g\
-et(one[1].from),one)}look(exits){let{route,walked}=this.world,at=exits.map(([number])=>route.lastIndexOf(numbe\
-r)),isLocked=exits.some(([,{locked}])=>locked),isRoute=at.some(one=>one>=walked),isWalked=!isRoute&&at.some(on\
-e=>one>=0);return{exits:exits.map(([number])=>number),isLocked,isRoute,isWalked}}drawWay(first,second,out,back\
-){let[x1,y1]=first.middle,[x2,y2]=second.middle,dx=x2-x1,dy=y2-y1,far=Math.hypot(dx,dy),bow=this.isHidden(firs\
-t.room,second.room)?2*BEND*CELL.tall*this.view.scale/far:0,bend=[(x1+x2)/2-dy*bow,(y1+y2)/2+dx*bow],aims=[[ben\
-d[0]-x1,bend[1]-y1],[bend[0]-x2,bend[1]-y2]],ends=[edge(first,...aims[0]),edge(second,...aims[1])],arrow=!back\
-.length?1:!out.length?0:$;this.ways.push({ends,bend:bow?bend:$,arrow,...this.look([...out,...back])});if(out.l\
-ength)this.label(ends[0],aims[0],out);if(back.length)this.label(ends[1],aims[1],back)}isHidden(from,to){let a=\
-this.layout.cells.get(from),b=this.layout.cells.get(to);return passed(a.at,b.at,key=>a.sheet.rooms.has(key))>0\
-}drawStub(box,[number,exit]){let step=stepOf(exit);if(step?.[2]&&exit.to===$)return this.drawFloor(box,[[numbe\
-r,exit]],step[2]>0);let count=this.aside.get(box.room)??0,isNamed=step&&!step[2];if(!isNamed)this.aside.set(bo\
-x.room,count+1);if((!isNamed&&count>=ASIDE.length)||this.ways.length>=MOST_WAYS)return;let[dx,dy]=isNamed?step\
-:ASIDE[count],aim=[dx*CELL.wide,dy*CELL.tall],far=Math.hypot(...aim),start=edge(box,...aim),stub=STUB*Math.min\
-(1,this.view.scale),end=[start[0]+aim[0]/far*stub,start[1]+aim[1]/far*stub];this.ways.push({ends:[start,end],i\
-sStub:!0,...this.look([[number,exit]])});this.label(start,aim,[[number,exit]],exit.to===exit.from?\" (here)\":\
-\"\")}drawFloor(box,exits,isUp){if(!box||!exits.length)return;let x=box.x+box.wide*(isUp?0.86:0.14),y=box.y+(i\
-sUp?0:box.tall);box.marks.push({x,y,isUp,isKnown:exits.some(([,{to}])=>to!==$),...this.look(exits)});this.labe\
-l([x,y],[0,isUp?-1:1],exits)}label([x,y],[dx,dy],exits,note=\"\"){let{scale}=this.view,far=Math.hypot(dx,dy);i\
-f(scale<LABELLED||this.labels.length>=MOST_LABELS)return;let most=Math.abs(dx)>Math.abs(dy)*2?Math.max(5,Math.\
-floor((far-BOX.wide*scale)/LETTER)):LONGEST,text=labelOf(exits,most)+note,wide=text.length*LETTER,[ux,uy]=[dx/\
-far,dy/far],look=this.look(exits);for(let[along,side]of SPOTS){let on=(Math.abs(ux)*wide+Math.abs(uy)*LINE)/2+\
-4+along*LINE,off=((Math.abs(uy)*wide+Math.abs(ux)*LINE)/2+(look.isLocked?8:3))*side,box=around(x+ux*on-uy*off,\
-y+uy*on+ux*off,wide,LINE);if(!this.taken.isFree(box))continue;this.taken.add(box);this.labels.push({...box,tex\
-t,...look});return}}}\nfunction listOf(world,most=MOST_LISTED){return[...world.rooms.keys()].sort((a,b)=>a-b).\
-slice(0,most).map(room=>{let exits=world.exitsOf(room),more=exits.length-MOST_NAMED,kind=kindOf(world,room),wa\
-ys=exits.slice(0,MOST_NAMED).map(number=>wayText(world,number));if(more>0)ways.push(`and ${more} more`);let no\
-te={here:\", you are here\",seen:\"\",heard:\", not seen yet\",locked:\", locked\"}[kind],name=`${world.rooms.\
-get(room) ?? \"a room\"} #${room}${note}`;return{room,text:name+(ways.length?\": \"+ways.join(\", \"):\"\")}})\
-}\nfunction wayText(world,number){let exit=world.exits.get(number),to=exit.to===$?\"\":` to #${exit.to}`,isRou\
-te=world.route.includes(number,world.walked),notes=(exit.locked?\" (locked)\":\"\")+(isRoute?\" (on the route)\
-\":\"\");return(exit.name??\"an exit\")+to+notes}\n\nlet FIRST_WAIT=1000,MOST_WAIT=30000,LASTED=10000,HAS_LEFT\
-=1000,REASONS=new Map([[1001,\"the server has stopped\"],[1006,\"the server is not reached\"],[1011,\"the serv\
-er is out of memory\"],[1013,\"the server is full\"]]);\nfunction whyClosed(code,reason,wasOpen){if(code===100\
-6&&wasOpen)return\"the connection was lost\";return reason?`the server says: ${reason}`:REASONS.get(code)??`co\
-de ${code}`}\nclass Connection{constructor(tools,heard){Object.assign(this,{tools,heard,state:\"off\",wait:FIR\
-ST_WAIT})}turn(state){this.state=state;this.heard.state(state)}isOn(){return this.state===\"on\"}connect(){if(\
-this.state===\"on\"||this.state===\"dialing\")return;this.tools.cancel(this.timer);this.openedAt=$;let socket=\
-this.socket=this.tools.dial();socket.onopen=()=>this.opened();socket.onmessage=event=>this.heard.text(event.da\
-ta);socket.onclose=event=>this.closed(event.code,event.reason);this.turn(\"dialing\")}hurry(){if(this.state===\
-\"waiting\")this.connect()}opened(){this.openedAt=this.tools.now();this.turn(\"on\");this.heard.open()}send(li\
-ne){this.socket.send(line)}closed(code,reason=\"\"){let{tools}=this,wasOpen=this.openedAt!==$;if(wasOpen&&tool\
-s.now()-this.openedAt>=LASTED)this.wait=FIRST_WAIT;let isLeft=this.hasLeft||code===HAS_LEFT;this.hasLeft=!1;if\
-(!isLeft){let wait=this.wait*(0.5+tools.chance());this.wait=Math.min(MOST_WAIT,this.wait*2);this.nextAt=tools.\
-now()+wait;this.timer=tools.later(()=>this.connect(),wait)}this.turn(isLeft?\"off\":\"waiting\");this.heard.cl\
-osed({code,reason,why:whyClosed(code,reason,wasOpen),wasOpen,isLeft})}stop(){this.tools.cancel(this.timer);thi\
-s.turn(\"off\")}}\nfunction originIn(text){return text.trim().match(SAID.elsewhere)?.[1]}\n\nlet MOST_TYPED_LI\
-NES=200;\nfunction namesAfter(world,first,exits){let rooms=[...world.rooms.values()].filter(Boolean),things=[.\
-..world.things.values()],line=behind(\"proof\",first)??first,has=verb=>behind(verb,line)!==$;if(has(\"route\")\
-)return rooms;if(has(\"meet\"))return[...world.people,...things];return has(\"go\")?exits:[...exits,...things,\
-...world.people,...rooms]}\nfunction completions(world,verbs,text){let exits=world.exitsOf(world.here).map(exi\
-t=>world.exits.get(exit).name).filter(Boolean),starts=[...text.matchAll(/(?:^|[ ,])(?=[^ ,])/g)].map(({index,0\
-:gap})=>index+gap.length);for(let start of starts){let head=text.slice(0,start),tail=text.slice(start).toLower\
-Case(),names=start===0?[...verbs,...exits]:namesAfter(world,text,exits),found=[...new Set(names)].filter(name=\
->name.toLowerCase().startsWith(tail)),longer=found.filter(name=>name.length>tail.length);if(longer.length)retu\
-rn longer.sort().map(name=>head+name)}return[]}\nclass Earlier{constructor(lines=[]){this.lines=lines;this.res\
-t()}add(line){if(this.lines[this.lines.length-1]!==line)this.lines.push(line);if(this.lines.length>MOST_TYPED_\
-LINES)this.lines.shift();this.rest()}rest(){this.at=this.lines.length;this.draft=$}move(way,text){this.draft??\
-=text;for(let at=this.at+way;at>=0&&at<this.lines.length;at+=way)if(this.lines[at].startsWith(this.draft)&&thi\
-s.lines[at]!==text)return this.lines[this.at=at];if(way<0)return $;let{draft}=this;this.rest();return draft}}\
-\n\nlet MOST_BY_ITSELF=20000,HISTORY_GAP=10000;\nfunction isProvable(entry){return!entry.quiet&&[\"route\",\"n\
-oWay\",\"meeting\"].includes(headOf(entry))}\nfunction isProof(entry){return headOf(entry)===\"proof\"&&isWhol\
-e(entry)}\nlet DOUBTS=[[/^refused: version (\\d+)/,\"the history has no version $1 yet\"],[/^refused: no such \
-player (#\\d+)/,\"$1 is no player\"],[/^refused: wrong start (#\\d+)/,\"$1 stands elsewhere\"],[/^refused: sta\
-rt label (#\\d+)/,\"the costs of $1 do not begin with 0\"],[/^refused: arc (#\\d+) of (#\\d+)/,\"exit $1 is op\
-en to $2, and leads on for less than was told\"],[/^refused: walk broken at (\\d+) of (#\\d+)/,\"exit $1 of th\
-e way of $2 does not begin where the one before ends\"],[/^refused: walk locked at (\\d+) of (#\\d+)/,\"exit $\
-1 of the way of $2 is locked\"],[/^refused: walk cost of (#\\d+)/,\"the way of $1 does not cost what was told\
-\"],[/^refused: conclusion/,\"the answer does not follow from the ways\"],];\nfunction inWords(line){let[patte\
-rn,words]=DOUBTS.find(([one])=>one.test(line))??[];return pattern?`refused: ${line.match(pattern)[0].replace(p\
-attern, words)}`:line.replace(\"accepted\",\"checked\")}\nfunction markFor({verdict,text,says},entry,proof){le\
-t mark=(kind,words)=>({kind,isDone:!0,text:words}),isSame=entry.volume===proof.volume,isNow=isSame&&entry.vers\
-ion===proof.version,at=`at ${proof.version}${isSame ? \"\" : ` of volume ${proof.volume}`}`;if(verdict!==\"acc\
-epted\")return mark(\"alarm\",inWords(text));if(entry===proof||says===entry.lines.join(\"\\n\"))return mark(\"\
-checked\",isNow?\"checked\":`checked ${at}`);return isNow?mark(\"alarm\",`refused: the proof is of another ans\
-wer: ${says}`):mark(\"checked\",`not the answer any more: ${at} ${says}, checked`)}\nclass Checks{constructor(\
-judge,act){Object.assign(this,{judge,act,volume:1,last:Promise.resolve(),isAlways:!0})}answered(entry){if(entr\
-y.quiet||!(isProvable(entry)||isProof(entry)))return;let isByItself=this.isAlways&&entry.version<=MOST_BY_ITSE\
-LF&&isProvable(entry);if(isByItself)this.check(entry);else this.mark(entry,{kind:\"offer\",text:\"check\",task\
-:()=>this.check(entry)})}mark(entry,mark){entry.mark=mark;this.act.mark(entry)}check(entry){let show=part=>thi\
-s.mark(entry,{kind:\"\",text:`checking ${Math.round(100 * part)} %`}),task=()=>this.check(entry),again=fault=>\
-({kind:\"offer\",text:`not checked: ${fault.message} Again?`,task});show(0);this.last=this.last.then(()=>this.\
-find(entry,show)).catch(again).then(mark=>this.mark(entry,mark));return this.last}async find(entry,show){let p\
-roof=isProof(entry)?entry:await this.ask(`proof ${entry.line}`);if(!isProof(proof))throw new Error(proof.lines\
-[0]);let{judge}=this;this.stays(proof.volume);let fault=judge.count<proof.version?await this.learn(judge,proof\
-.volume,show):$;return markFor(fault??await judge.check(proof.lines.slice(1).join(\"\\n\")+\"\\n\",show),entry\
-,proof)}stays(volume){if(volume!==this.volume)throw new Error(`volume ${volume} has ended.`)}async ask(line){l\
-et answer=await this.act.ask(line);if(!answer)throw new Error(\"the connection was lost\");return answer}async\
-\x20learn(judge,volume,show){let wait=(this.learnedAt??-HISTORY_GAP)+HISTORY_GAP-this.act.now();if(wait>0)awai\
-t new Promise(go=>this.act.later(go,wait));let answer=await this.ask(\"@history\");this.learnedAt=this.act.now\
-();if(headOf(answer)!==\"history\")throw new Error(answer.lines[0]);this.stays(volume);let found=await judge.h\
-istory(answer.lines.slice(1).join(\"\\n\")+\"\\n\",show);return found.verdict?found:$}}\n\nlet BEHIND=250;\nfu\
-nction onceAFrame(task){let isAsked=!1,run=()=>{isAsked=!1;task()};return()=>{if(isAsked)return;isAsked=!0;if(\
-document.hidden)setTimeout(run,BEHIND);else requestAnimationFrame(run)}}\nfunction on(node,task,name=\"click\"\
-){node.addEventListener(name,task,{passive:!1})}\nfunction element(name,kind,text=\"\"){let node=document.crea\
-teElement(name);node.className=kind;node.textContent=text;return node}\n\nlet MOST_ENTRIES=5000,MOST_LINES=150\
-000,MOST_KEPT=600,GROUP=100,FOLDED=20,MOST_OPEN=1000,MOST_SPOKEN=12,SIGNS={mine:\"> \",page:\"-- \"};\nfunctio\
-n isLong({kind,lines}){return lines.length>=FOLDED||(kind===\"reply\"&&(SAID.history.test(lines[0])||SAID.proo\
-f.test(lines[0])))}\nfunction timeOf(entry){let time=new Date(entry.time),two=number=>String(number).padStart(\
-2,\"0\");return`${two(time.getHours())}:${two(time.getMinutes())}`}\nfunction textOf({kind,version,lines,mark}\
-){let first=kind===\"reply\"?`[${version}] `:SIGNS[kind]??\"\";return first+lines.join(\"\\n\")+(mark?.text?` \
-\x20{${mark.text}}`:\"\")}\nclass Book{constructor(){this.entries=[];this.lines=0}add(entry){entry.time??=Date\
-.now();entry.counted=entry.lines.length;this.entries.push(entry);this.lines+=entry.counted}grown(entry){this.l\
-ines+=entry.lines.length-entry.counted;entry.counted=entry.lines.length}isFull(group){return this.entries.leng\
-th>MOST_ENTRIES||(this.lines>MOST_LINES&&this.entries.length>group)}drop(count){for(let{counted}of this.entrie\
-s.splice(0,count))this.lines-=counted}text(){return this.entries.map(entry=>`${timeOf(entry)} ${textOf(entry)}\
-\\n`).join(\"\")}kept(){return this.entries.slice(-MOST_KEPT).map(({kind,version,line,lines,time,mark})=>{let \
-told=isLong({kind,lines})?[lines[0]+` (${lines.length} lines)`]:lines;return{kind,version,line,lines:told,time\
-,mark:mark?.isDone?mark:$}})}}\nclass Log{constructor(parts,book){Object.assign(this,{parts,book,waiting:[],ch\
-anged:new Set(),groups:[],isAtEnd:!0,unseen:0});this.soon=onceAFrame(()=>this.flush());on(parts.log,()=>this.s\
-crolled(),\"scroll\");on(parts.fresh,()=>this.toEnd());new ResizeObserver(()=>this.isAtEnd&&this.pin()).observ\
-e(parts.log)}show(entry){if(entry.node)this.changed.add(entry);else if(!entry.isWaiting)this.waiting.push(entr\
-y);entry.isWaiting=!0;this.soon()}tell(text,kind=\"page\"){this.show({kind,lines:[text]})}mine(line){this.isAt\
-End=!0;this.show({kind:\"mine\",lines:[line]})}flush(){let entries=this.waiting.splice(0),isAtEnd=this.isAtEnd\
-;for(let entry of entries){this.book.add(entry);this.last().append(entry.node=nodeOf(entry))}for(let entry of \
-this.changed)this.renew(entry);this.changed.clear();this.trim();this.speak(entries);if(isAtEnd)this.pin();else\
-\x20this.count(entries.reduce((sum,entry)=>sum+(isLong(entry)?1:entry.lines.length),0))}last(){let group=this.\
-groups[this.groups.length-1];if(group&&group.childElementCount<GROUP)return group;let next=element(\"div\",\"\
-\");this.groups.push(next);this.groups[this.groups.length-3]?.classList.add(\"done\");this.parts.entries.appen\
-d(next);return next}trim(){while(this.groups.length>1&&this.book.isFull(this.groups[0].childElementCount)){let\
-\x20group=this.groups.shift();this.book.drop(group.childElementCount);group.remove()}}renew(entry){this.book.g\
-rown(entry);let node=nodeOf(entry);if(entry.node.open)node.open=!0;entry.node.replaceWith(node);entry.node=nod\
-e}speak(entries){let{spoken}=this.parts,heard=entries.filter(entry=>entry.kind!==\"mine\"&&entry.isSilent!==!0\
-),said=heard.slice(0,MOST_SPOKEN).map(entry=>isLong(entry)?`${entry.lines[0]}, ${entry.lines.length} lines`:en\
-try.lines.join(\", \"));if(heard.length>MOST_SPOKEN)said.push(`and ${heard.length - MOST_SPOKEN} more`);for(le\
-t text of said)spoken.append(element(\"p\",\"\",text));while(spoken.childElementCount>3*MOST_SPOKEN)spoken.fir\
-stChild.remove()}scrolled(){let{log}=this.parts;this.isAtEnd=log.scrollTop+log.clientHeight>=log.scrollHeight-\
-24;if(this.isAtEnd)this.count(-this.unseen)}pin(){this.parts.log.scrollTop=1e9;this.count(-this.unseen)}toEnd(\
-){this.isAtEnd=!0;this.pin()}count(lines){if(!lines)return;this.unseen+=lines;this.parts.fresh.hidden=this.uns\
-een===0;this.parts.fresh.textContent=this.unseen===1?\"1 new line\":`${this.unseen} new lines`}}\nfunction cla\
-ssesOf({kind,line,lines}){if(kind!==\"reply\")return kind;return isRefusal(lines)?\"reply refused\":isLook(lin\
-e??\"\")?\"reply place\":\"reply\"}\nfunction nodeOf(entry){let{kind,version,lines,mark}=entry,isFolded=isLong\
-(entry),node=element(isFolded?\"details\":\"p\",classesOf(entry)),head=isFolded?element(\"summary\",\"\"):node\
-,heard=kind===\"notice\"?lines[0].match(SAID.notice):$;node.dataset.time=timeOf(entry);if(kind===\"reply\"&&ve\
-rsion!==$)head.append(element(\"span\",\"version\",`[${version}] `));if(heard)head.append(element(\"span\",\"v\
-ersion\",`(${heard[1]}) `));if(isFolded)node.append(head,...folded(node,lines));head.append(isFolded?`${lines[\
-0]} `:heard?heard[2]:(SIGNS[kind]??\"\")+lines.join(\"\\n\"));if(isFolded)head.append(element(\"b\",\"\",`${li\
-nes.length.toLocaleString(\"en\")} lines`));if(mark)head.append(markOf(mark));return node}\nfunction folded(no\
-de,lines){let inner=element(\"pre\",\"\");node.setAttribute(\"aria-live\",\"off\");on(node,()=>{if(!node.open|\
-|inner.textContent)return;let more=lines.length-MOST_OPEN,rest=more>0?`\\n.. and ${more} more: save the log`:\
-\"\";inner.textContent=lines.slice(1,MOST_OPEN).join(\"\\n\")+rest},\"toggle\");return[inner]}\nfunction markO\
-f({text,kind,task}){let node=element(task?\"button\":\"span\",`mark ${kind}`,text);if(task)Object.assign(node,\
-{type:\"button\",onclick:task});return node}\n\nlet INKS=[\"back\",\"fore\",\"dim\",\"mark\",\"off\",\"room\",\
-\"code\"];\nfunction inksOf(element){let style=getComputedStyle(element);return Object.fromEntries(INKS.map(na\
-me=>[name,style.getPropertyValue(`--${name}`).trim()]))}\nfunction paint(pen,picture,ink){let{wide,tall}=pictu\
-re.view;pen.clearRect(0,0,wide,tall);Object.assign(pen,{font:`12px ${ink.code}`,textAlign:\"center\",textBasel\
-ine:\"middle\",lineJoin:\"round\"});for(let way of picture.ways)paintWay(pen,way,ink);for(let label of picture\
-.labels)paintLabel(pen,label,ink);for(let box of picture.boxes)paintRoom(pen,box,ink);for(let way of picture.w\
-ays)if(way.isLocked)paintLock(pen,...halfway(way),ink);let here=picture.boxes.find(({kind})=>kind===\"here\");\
-if(picture.pointer&&!here)paintPointer(pen,picture.pointer,ink)}\nfunction paintWay(pen,{ends:[[x1,y1],[x2,y2]\
-],bend,arrow,isStub,isLocked,isRoute,isWalked},ink){let isMarked=isRoute||isWalked;pen.strokeStyle=pen.fillSty\
-le=isMarked?ink.mark:isLocked?ink.off:ink.dim;pen.lineWidth=isRoute?4:isLocked||isWalked?2:1.5;pen.setLineDash\
-(isWalked?[2,5]:isLocked?[6,4]:isStub?[3,3]:[]);pen.beginPath();pen.moveTo(x1,y1);if(bend)pen.quadraticCurveTo\
-(...bend,x2,y2);else pen.lineTo(x2,y2);pen.stroke();pen.setLineDash([]);let from=bend??(arrow?[x1,y1]:[x2,y2])\
-;if(arrow!==$)paintArrow(pen,from,arrow?[x2,y2]:[x1,y1])}\nfunction halfway({ends:[a,b],bend}){return a.map((o\
-ne,axis)=>(one+b[axis]+2*(bend?.[axis]??(one+b[axis])/2))/4)}\nfunction paintArrow(pen,[x1,y1],[x2,y2]){let tu\
-rn=Math.atan2(y2-y1,x2-x1);pen.beginPath();pen.moveTo(x2,y2);for(let side of[-0.4,0.4])pen.lineTo(x2-10*Math.c\
-os(turn+side),y2-10*Math.sin(turn+side));pen.fill()}\nfunction paintLock(pen,x,y,ink){pen.fillStyle=pen.stroke\
-Style=ink.off;pen.fillRect(x-5,y-2,10,8);pen.lineWidth=2;pen.beginPath();pen.arc(x,y-2,3.5,Math.PI,0);pen.stro\
-ke()}\nfunction paintRoom(pen,{x,y,wide,tall,kind,lines,marks},ink){let isHere=kind===\"here\",isSmall=tall<ON\
-E_LINE;pen.fillStyle=isHere&&isSmall?ink.mark:kind===\"heard\"?ink.back:ink.room;pen.strokeStyle=isHere?ink.ma\
-rk:kind===\"locked\"?ink.off:ink.dim;pen.lineWidth=isHere?3:1.5;pen.setLineDash(kind===\"heard\"?[5,3]:[]);pen\
-.beginPath();pen.roundRect(x,y,wide,tall,Math.min(7,tall/3));pen.fill();pen.stroke();pen.setLineDash([]);if(ki\
-nd===\"locked\"&&!isSmall)pen.strokeRect(x+3.5,y+3.5,wide-7,tall-7);if(kind===\"locked\")paintLock(pen,x+1,y+1\
-,ink);if(isHere)paintHere(pen,x,y+tall/2,ink);lines.forEach((text,at)=>{pen.fillStyle=at||kind===\"heard\"?ink\
-.dim:ink.fore;pen.fillText(text,x+wide/2,y+tall/2+(at-(lines.length-1)/2)*LINE)});for(let mark of marks)paintM\
-ark(pen,mark,ink)}\nfunction paintHere(pen,x,y,ink){pen.fillStyle=ink.mark;pen.beginPath();for(let[dx,dy]of[[-\
-8,0],[0,-8],[8,0],[0,8]])pen.lineTo(x+dx,y+dy);pen.fill()}\nfunction paintMark(pen,{x,y,isUp,isKnown,isLocked,\
-isRoute},ink){pen.fillStyle=isKnown?isRoute?ink.mark:isLocked?ink.off:ink.fore:ink.back;pen.strokeStyle=isRout\
-e?ink.mark:isLocked?ink.off:ink.fore;pen.lineWidth=1.5;pen.beginPath();for(let[dx,dy]of[[-7,4],[7,4],[0,-7]])p\
-en.lineTo(x+dx,y+(isUp?dy:-dy));pen.closePath();pen.fill();pen.stroke();if(isLocked)paintLock(pen,x+11,y,ink)}\
-\nfunction paintLabel(pen,{x,y,wide,tall,text,isRoute,isLocked},ink){pen.fillStyle=ink.back;pen.fillRect(x,y,w\
-ide,tall);pen.fillStyle=isRoute?ink.mark:isLocked?ink.off:ink.fore;pen.fillText(text,x+wide/2,y+tall/2+0.5,wid\
-e)}\nfunction paintPointer(pen,{x,y,turn},ink){pen.fillStyle=ink.mark;pen.beginPath();for(let[far,side]of[[13,\
-0],[11,2.5],[11,-2.5]])pen.lineTo(x+far*Math.cos(turn+side),y+far*Math.sin(turn+side));pen.fill();pen.fillText\
-(\"you\",x-24*Math.cos(turn),y-16*Math.sin(turn))}\n\nlet SCALES={least:0.08,most:2,step:1.25},FADE=1500,MOVED\
-=5,PAN=60;\nclass MapView{constructor(parts,onRoom){Object.assign(this,{parts,onRoom,layout:new Layout(),age:0\
-,drawn:-1,listed:-1,fingers:new Map()});this.view={sheet:$,floor:0,x:0,y:0,scale:1,wide:0,tall:0};this.soon=on\
-ceAFrame(()=>this.draw());this.pen=parts.canvas.getContext(\"2d\");this.listen();new ResizeObserver(()=>this.s\
-oon()).observe(parts.window);on(parts.map,()=>this.show(this.world),\"toggle\");on(parts.words,()=>this.list()\
-,\"toggle\");on(matchMedia(\"(prefers-color-scheme: dark)\"),this.soon,\"change\")}show(world){let isMoved=thi\
-s.world!==world||this.here!==world.here;Object.assign(this,{world,here:world.here});this.parts.summary.textCon\
-tent=this.summary();if(isMoved)this.isMovedByHand=!1;if(world.revision!==this.drawn)this.soon();this.list();if\
-(world.route.length&&world.walked>=world.route.length)this.fade()}summary(){let{rooms,here}=this.world,place=h\
-ere===$?\"\":`: ${rooms.get(here) ?? \"a room\"} #${here}`;return`Map${place}`}fade(){let{route}=this.world;if\
-(this.fading===route)return;this.fading=route;setTimeout(()=>{if(this.world.route===route)this.world.plan([]);\
-this.show(this.world)},FADE)}draw(){let{parts,view,world}=this;if(!world||!parts.map.open||!parts.window.clien\
-tWidth)return;if(this.age!==world.age)this.layout=new Layout();this.age=world.age;let isSettled=this.layout.up\
-date(world),{clientWidth:wide,clientHeight:tall}=parts.window;Object.assign(view,{wide,tall});this.follow();le\
-t picture=new Picture(world,this.layout,view),ratio=devicePixelRatio;picture.pointer=this.pointer();let[width,\
-height]=[Math.round(wide*ratio),Math.round(tall*ratio)],{canvas}=parts;if(canvas.width!==width||canvas.height!\
-==height)Object.assign(canvas,{width,height});this.pen.setTransform(ratio,0,0,ratio,0,0);paint(this.pen,pictur\
-e,inksOf(parts.window));Object.assign(this,{picture,drawn:isSettled?world.revision:-1});parts.note.textContent\
-=isSettled?this.note(picture):\"Placing rooms ..\";parts.floor.textContent=this.floorName();if(!isSettled)this\
-.soon()}follow(){let{view}=this,cell=this.layout.cell(this.here)??this.layout.cell(0);if(!cell||(this.isMovedB\
-yHand&&this.layout.has(view.sheet)))return;let isOther=view.sheet!==cell.sheet,[x,y]=middleOf(view,cell),{wide\
-,tall}=sizeOf(view);Object.assign(view,{sheet:cell.sheet,floor:cell.z});let isIn=x>wide&&x<view.wide-wide&&y>t\
-all&&y<view.tall-tall;if(isOther||!isIn)Object.assign(view,{x:cell.x,y:cell.y})}pointer(){let{view}=this,cell=\
-this.layout.cell(this.here);if(!cell||cell.sheet!==view.sheet||cell.z!==view.floor)return $;let[x,y]=middleOf(\
-view,cell),edge=18;if(x>0&&x<view.wide&&y>0&&y<view.tall)return $;return{x:Math.max(edge,Math.min(view.wide-ed\
-ge,x)),y:Math.max(edge,Math.min(view.tall-edge,y)),turn:Math.atan2(y-view.tall/2,x-view.wide/2)}}note({boxes,c\
-ount,isWhole}){let all=this.world.rooms.size,apart=all-count;if(!all)return\"Type look to see where you are.\"\
-;let part=isWhole?\"\":`Drawn in part: ${boxes.length} rooms, the nearest. `;return`${part}${all} ${all === 1 \
-? \"room\" : \"rooms\"}`+(apart?`, ${apart} on other floors or apart`:\"\")}floorName(){let{floor}=this.view;r\
-eturn floor?`floor ${floor > 0 ? \"+\" : \"\"}${floor}`:\"floor 0\"}list(){let{world,parts}=this;if(!world||!p\
-arts.words.open||!parts.map.open||this.listed===world.revision)return;this.listed=world.revision;let wanted=li\
-stOf(world);this.items??=new Map();for(let[room,{item}]of this.items)if(!world.rooms.has(room))item.remove(),t\
-his.items.delete(room);let after=parts.rooms.firstElementChild;for(let{room,text}of wanted){let{item,button}=t\
-his.items.get(room)??this.newItem(room);if(button.textContent!==text)button.textContent=text;if(item===after)a\
-fter=after.nextElementSibling;else parts.rooms.insertBefore(item,after)}let more=world.rooms.size-wanted.lengt\
-h;parts.more.textContent=more>0?`${more} more rooms are not listed.`:\"\"}newItem(room){let item=element(\"li\
-\",\"\"),button=element(\"button\",\"\");button.type=\"button\";on(button,()=>this.onRoom(room));item.append(b\
-utton);this.items.set(room,{item,button});return this.items.get(room)}listen(){let{window:pane,up,down,larger,\
-smaller,whole,home}=this.parts;on(pane,event=>this.press(event),\"pointerdown\");on(pane,event=>this.drag(even\
-t),\"pointermove\");for(let name of[\"pointerup\",\"pointercancel\"])on(pane,event=>this.lift(event),name);on(\
-pane,event=>{event.preventDefault();this.zoom(SCALES.step**-Math.sign(event.deltaY),event.offsetX,event.offset\
-Y)},\"wheel\");on(pane,event=>this.key(event),\"keydown\");on(up,()=>this.change({floor:this.view.floor+1}));o\
-n(down,()=>this.change({floor:this.view.floor-1}));on(larger,()=>this.zoom(SCALES.step));on(smaller,()=>this.z\
-oom(1/SCALES.step));on(whole,()=>this.whole());on(home,()=>this.home())}change(values){this.isMovedByHand=!0;O\
-bject.assign(this.view,values);this.soon()}home(){this.change({sheet:$,scale:Math.max(1,this.view.scale)});thi\
-s.isMovedByHand=!1}whole(){let{view}=this,cells=[...this.layout.cells.keys()].map(room=>this.layout.cell(room)\
-).filter(({sheet,z})=>sheet===view.sheet&&z===view.floor);if(!cells.length)return;let range=axis=>cells.reduce\
-(([a,b],cell)=>[Math.min(a,cell[axis]),Math.max(b,cell[axis])],[Infinity,-Infinity]),[left,right]=range(\"x\")\
-,[top,low]=range(\"y\"),fits=Math.min(view.wide/((right-left+1)*CELL.wide),view.tall/((low-top+1)*CELL.tall));\
-this.change({x:(left+right)/2,y:(top+low)/2,scale:Math.max(SCALES.least,Math.min(1,fits))})}zoom(times,x=this.\
-view.wide/2,y=this.view.tall/2){let{view}=this,scale=Math.max(SCALES.least,Math.min(SCALES.most,view.scale*tim\
-es)),part=1/view.scale-1/scale,dx=(x-view.wide/2)/CELL.wide,dy=(y-view.tall/2)/CELL.tall;this.change({scale,x:\
-view.x+dx*part,y:view.y+dy*part})}pan(dx,dy){let{view}=this;this.change({x:view.x-dx/CELL.wide/view.scale,y:vi\
-ew.y-dy/CELL.tall/view.scale})}press(event){this.fingers.set(event.pointerId,[event.offsetX,event.offsetY]);th\
-is.moved=this.fingers.size>1?MOVED:0}drag(event){let from=this.fingers.get(event.pointerId),to=[event.offsetX,\
-event.offsetY];if(!from)return;let[dx,dy]=[to[0]-from[0],to[1]-from[1]],others=[...this.fingers].filter(([id])\
-=>id!==event.pointerId);this.moved+=Math.hypot(dx,dy);if(this.moved<MOVED)return;event.currentTarget.setPointe\
-rCapture(event.pointerId);this.fingers.set(event.pointerId,to);if(!others.length)return this.pan(dx,dy);let[,o\
-ther]=others[0],apart=([x,y])=>Math.hypot(x-other[0],y-other[1]);this.zoom(apart(to)/Math.max(1,apart(from)),(\
-to[0]+other[0])/2,(to[1]+other[1])/2)}lift(event){let from=this.fingers.get(event.pointerId);this.fingers.dele\
-te(event.pointerId);if(!from||this.moved>=MOVED||event.type!==\"pointerup\")return;let{boxes=[],pointer}=this.\
-picture??{},box=boxes.find(one=>overlap(one,around(...from,1,1)));if(box)this.onRoom(box.room);else if(pointer\
-&&Math.hypot(from[0]-pointer.x,from[1]-pointer.y)<40)this.home()}key(event){let moves={ArrowLeft:[PAN,0],Arrow\
-Right:[-PAN,0],ArrowUp:[0,PAN],ArrowDown:[0,-PAN]},{floor}=this.view,tasks={\"+\":()=>this.zoom(SCALES.step),\
-\"-\":()=>this.zoom(1/SCALES.step),Home:()=>this.home(),PageUp:()=>this.change({floor:floor+1}),PageDown:()=>t\
-his.change({floor:floor-1}),0:()=>this.whole()},task=moves[event.key]?()=>this.pan(...moves[event.key]):tasks[\
-event.key];if(!task||event.ctrlKey||event.metaKey)return;event.preventDefault();task()}}\n\nlet MOST_BUTTONS=6\
-0;\nfunction isCommand(verbs,line){return verbs.includes(line.split(\" \")[0].toLowerCase())}\nfunction lineFo\
-r(world,number,verbs){let{name}=world.exits.get(number),isPlain=name!==$&&/^[A-Za-z][A-Za-z0-9 '-]*$/.test(nam\
-e)&&words(name)===name;return isPlain&&!isCommand(verbs,name)&&world.exitNamed(name,!0)===number?name:`go #${n\
-umber}`}\nclass Trip{constructor(entry){let head=headOf(entry),[text]=entry.lines,[from,to,cost]=text.match(SA\
-ID[head]).slice(1).map(Number);Object.assign(this,{entry,from,to,cost,exits:exitsOnWay(text),isNoWay:head===\"\
-noWay\"});Object.assign(this,{isRunning:!1,fault:\"\"})}isThere(world){return!this.isNoWay&&world.here===this.\
-to}next(world){let{route,walked}=world,exit=this.exits[walked],isShown=route.length===this.exits.length&&route\
-.every((one,at)=>one===this.exits[at]),from=walked?world.exits.get(this.exits[walked-1])?.to:this.from;return \
-isShown&&exit!==$&&from===world.here?exit:$}stepped(world,entry){let isOn=entry!==$&&headOf(entry)===\"walked\
-\";if(!isOn)this.fault=entry?entry.lines[0]:\"the connection was lost\";let exit=isOn&&this.isRunning?this.nex\
-t(world):$;this.isRunning=exit!==$;return exit}text(world){let name=`${world.rooms.get(this.to) ?? \"room\"} #\
-${this.to}`,count=this.exits.length;if(this.isNoWay)return`No way to ${name}`;if(this.isThere(world))return`Yo\
-u are at ${name}`;let way=`cost ${this.cost}, exit ${world.walked + 1} of ${count}`;return`To ${name}: ${way}`\
-+(this.fault?`. Stopped: ${this.fault}`:\"\")}}\nclass Hands{constructor(parts,world,verbs,act){Object.assign(\
-this,{parts,world,verbs,act});this.soon=onceAFrame(()=>this.draw());on(parts.step,()=>this.go(!1));on(parts.al\
-l,()=>this.trip?.isRunning?this.stop():this.go(!0));on(parts.again,()=>this.act.say(this.trip.entry.line));on(\
-parts.close,()=>this.close())}answered(entry){if([\"route\",\"noWay\"].includes(headOf(entry)))this.trip=new T\
-rip(entry);this.soon()}go(all){let exit=this.trip?.next(this.world);if(exit===$)return;Object.assign(this.trip\
-,{isRunning:all,fault:\"\"});this.take(this.trip,exit)}take(trip,exit){this.act.say(`go #${exit}`,entry=>{let \
-next=trip.stepped(this.world,entry);if(next!==$&&trip===this.trip)this.take(trip,next);else this.act.arrived()\
-;this.soon()});this.soon()}stop(){if(this.trip)this.trip.isRunning=!1;this.soon()}close(){this.stop();this.tri\
-p=$;this.world.plan([]);this.act.arrived();this.soon()}draw(){this.drawExits();this.endTrip();let{parts,trip,w\
-orld}=this;parts.route.hidden=!trip;if(!trip)return;let next=trip.next(world),since=this.act.since(trip.entry)\
-,{mark,volume}=trip.entry,isOpen=next!==$,left=trip.exits.length-world.walked,isLost=!isOpen&&!trip.isNoWay&&!\
-trip.isThere(world);parts.told.textContent=trip.text(world)+(isLost?\". You left this way\":\"\");parts.mark.t\
-extContent=mark?.text??\"\";parts.mark.className=`mark ${mark?.kind ?? \"\"}`;parts.age.textContent=since===In\
-finity?`of volume ${volume}`:since>0?`${since} ${since === 1 ? \"change\" : \"changes\"} since`:\"\";parts.aga\
-in.hidden=!(since>0||isLost);parts.step.hidden=!isOpen||trip.isRunning;parts.step.textContent=isOpen?`Go: ${wo\
-rld.exits.get(next)?.name ?? `#${next}`}`:\"\";parts.all.hidden=!isOpen||(left<2&&!trip.isRunning);parts.all.t\
-extContent=trip.isRunning?\"Stop\":`Go all ${left}`}endTrip(){let{trip}=this,isThere=trip?.isThere(this.world)\
-;if(isThere)trip.wasThere=!0;else if(trip?.wasThere)this.trip=$}drawExits(){let{parts,world}=this,exits=world.\
-exitsOf(world.here).slice(0,MOST_BUTTONS),hadFocus=parts.exits.contains(document.activeElement);while(parts.ex\
-its.childElementCount>exits.length)parts.exits.lastChild.remove();while(parts.exits.childElementCount<exits.le\
-ngth)parts.exits.append(this.exitButton());exits.forEach((number,at)=>this.drawExit(parts.exits.children[at],n\
-umber));if(hadFocus&&!parts.exits.contains(document.activeElement))parts.line.focus()}exitButton(){let button=\
-element(\"button\",\"exit\");button.type=\"button\";button.append(element(\"b\",\"\"),element(\"small\",\"\"))\
-;on(button,()=>this.act.say(lineFor(this.world,Number(button.dataset.exit),this.verbs)));return button}drawExi\
-t(button,number){let{name,to,locked}=this.world.exits.get(number),[way,room]=button.children,place=to===$?\"\"\
-:this.world.rooms.get(to)??`#${to}`,text=locked?`${place} (locked)`.trim():place,isNext=this.trip?.next(this.w\
-orld)===number;if(way.textContent!==(name??`#${number}`))way.textContent=name??`#${number}`;if(room.textConten\
-t!==text)room.textContent=text;button.dataset.exit=number;button.className=`exit${locked ? \" locked\" : \"\"}\
-${isNext ? \" next\" : \"\"}`}}\n\nclass Line{constructor(form,input,act,lines){Object.assign(this,{input,act,\
-earlier:new Earlier(lines),offers:[]});on(form,event=>this.submit(event),\"submit\");on(input,event=>this.key(\
-event),\"keydown\");on(input,()=>{this.earlier.rest();this.offers=[]},\"input\")}submit(event){event.preventDe\
-fault();let line=typed(this.input.value);if(line===\"\"||!this.act.send(line))return;this.earlier.add(line);th\
-is.set(\"\")}set(text){this.input.value=text;this.input.setSelectionRange(text.length,text.length)}key(event){\
-let{key}=event,isPlain=!event.ctrlKey&&!event.altKey&&!event.metaKey,tasks={ArrowUp:()=>this.back(-1),ArrowDow\
-n:()=>this.back(1),Escape:()=>this.clear(),Tab:()=>this.complete(event.shiftKey),PageUp:()=>this.act.page(-1),\
-PageDown:()=>this.act.page(1)};if(key!==\"Tab\"&&key!==\"Shift\")this.offers=[];if(!isPlain||!tasks[key])retur\
-n;if(tasks[key]()!==!1)event.preventDefault()}back(way){let text=this.earlier.move(way,this.input.value);if(te\
-xt!==$)this.set(text)}clear(){this.set(\"\");this.earlier.rest()}complete(isBack){let text=this.input.value;if\
-(text===\"\")return!1;if(!this.offers.length||!this.offers.includes(text)){this.offers=completions(this.act.wo\
-rld,this.act.verbs,text);if(this.offers.length)this.offers.push(text)}if(!this.offers.length)return!1;let at=t\
-his.offers.indexOf(text),count=this.offers.length;this.set(this.offers[(at+(isBack?count-1:1))%count]);return!\
-0}}\n\nfunction verbsOf(commands){let codes=([typed])=>typed.replace(/ \\(.*|, which .*/,\"\").split(\"`\").fi\
-lter((_,at)=>at%2),lines=commands.flatMap(codes);return[...new Set(lines.map(line=>line.match(/^@?[a-z]+/)?.[0\
-]).filter(Boolean))]}\nfunction withCode(text){return text.split(\"`\").map((part,at)=>at%2?element(\"code\",\
-\"\",part):part)}\nfunction rowOf(cells){let row=element(\"tr\",\"\");for(let text of cells){let cell=element(\
-\"td\",\"\");cell.append(...withCode(text));row.append(cell)}return row}\nfunction openHelp(dialog,body){if(!b\
-ody.childElementCount)body.append(...COMMANDS.map(rowOf));dialog.showModal()}\n\nlet KEPT=\"seamountcup\",FORM\
-=1,GIVEN_UP=600000;\nfunction keepInTab(value){try{sessionStorage.setItem(KEPT,JSON.stringify({form:FORM,...va\
-lue}))}catch{return!1}return!0}\nfunction keptInTab(){try{let kept=JSON.parse(sessionStorage.getItem(KEPT));se\
-ssionStorage.removeItem(KEPT);return kept?.form===FORM?kept:$}catch{return $}}\nfunction saveFile(name,text){l\
-et link=document.createElement(\"a\");link.href=URL.createObjectURL(new Blob([text],{type:\"text/plain\"}));li\
-nk.download=name;link.click();setTimeout(()=>URL.revokeObjectURL(link.href),GIVEN_UP)}\nfunction recordOf({his\
-tory,proofs,volume}){let text=checker.record(history.text,proofs.map(proof=>proof.text));return{name:`${volume\
-\x20> 1 ? `volume-${volume}-` : \"\"}record-${history.version}.txt`,text}}\n\nlet PLACES={guest:\"connect NAME\
-\",player:\"say Hello\"},NAME=document.title,part=id=>document.getElementById(id),parts=(...ids)=>Object.fromE\
-ntries(ids.map(id=>[id,part(id)])),later=(task,wait)=>setTimeout(task,wait),kept=keptInTab()??{},talk=new Conv\
-ersation(kept.world&&World.from(kept.world)),{world}=talk,verbs=verbsOf(COMMANDS),log=new Log(parts(\"log\",\"\
-entries\",\"fresh\",\"spoken\"),new Book()),map=new MapView({...parts(\"map\",\"canvas\",\"note\",\"floor\",\"\
-up\",\"down\",\"larger\",\"smaller\",\"whole\",\"home\",\"words\",\"rooms\",\"more\"),window:part(\"picture\")\
-,summary:part(\"map-name\")},askWay),link=new Connection({dial:()=>new WebSocket(location.origin.replace(/^htt\
-p/,\"ws\")+\"/play\"),now:()=>performance.now(),later,cancel:timer=>clearTimeout(timer),chance:Math.random,},{\
-open:opened,text:heard,closed,state:showState}),hands=new Hands(parts(\"exits\",\"route\",\"told\",\"mark\",\"\
-age\",\"again\",\"step\",\"all\",\"close\",\"line\"),world,verbs,{say:(line,answered)=>say(line,{answered}),si\
-nce:entry=>talk.since(entry),arrived}),line=new Line(part(\"form\"),part(\"line\"),{send:text=>say(text),world\
-,verbs,page:turnPage},kept.typed),checks=new Checks($,{ask:text=>new Promise(answered=>say(text,{quiet:!0,answ\
-ered})||answered($)),later,now:()=>performance.now(),mark:entry=>(log.show(entry),hands.soon()),});\nfunction \
-say(text,{quiet=!1,isUnseen=!1,answered}={}){if(!link.isOn()){if(!quiet)log.tell(`not connected${part(\"line\"\
-).value ? \": your line waits\" : \"\"}`);return!1}if(!quiet&&!isUnseen)log.mine(text);talk.say(text,quiet,ans\
-wered);link.send(text);return!0}\nfunction askWay(room){say(`route to #${room}`)}\nfunction arrived(){if(part(\
-\"looks\").checked&&world.here!==lookedAt&&link.isOn())say(\"look\",{isUnseen:!0});lookedAt=world.here}\nlet l\
-ookedAt,isBack=!1;\nfunction opened(){talk.begin();beginChecks();lookedAt=$;let{connectLine}=talk;if(connectLi\
-ne)isBack=say(connectLine,{answered:()=>(isBack=!1)})}\nfunction heard(text){let entries=talk.take(text);for(l\
-et entry of entries)log.show(entry);takeAnswers();if(document.hidden)showUnread(entries.filter(({kind})=>kind!\
-==\"greeting\").length);showWorld()}\nfunction beginChecks(){Object.assign(checks,{judge:new checker.Checker()\
-,volume:talk.volume})}\nfunction offerProofs(volume,proofs){let task=()=>saveFile(`volume-${volume}-proofs.txt\
-`,proofs.map(({text})=>text).join(\"\"));log.show({kind:\"page\",lines:[`volume ${volume} has ended, proofs of\
-\x20it: ${proofs.length}`],mark:{kind:\"offer\",text:\"save them\",task}})}\nlet tasks=[];\ntalk.onAnswer=entr\
-y=>tasks.push(()=>answered(entry));\ntalk.onEnd=(volume,proofs)=>{beginChecks();if(proofs.length)tasks.push(()\
-=>offerProofs(volume,proofs))};\nfunction takeAnswers(){for(let task of tasks.splice(0))task()}\nfunction answ\
-ered(entry){entry.answered?.(entry);if(entry.quiet||entry.kind!==\"reply\")return;let head=headOf(entry);if(he\
-ad===\"welcome\")welcomed();else if(head===\"walked\"&&!hands.trip?.isRunning)arrived();if(isLook(entry.line))\
-lookedAt=world.here;hands.answered(entry);checks.answered(entry)}\nfunction welcomed(){part(\"state\").textCon\
-tent=stateText(\"on\");hands.trip=$;if(part(\"looks\").checked)say(\"look\",{isUnseen:!0});if(document.activeE\
-lement===part(\"name\")||document.activeElement===document.body)part(\"line\").focus()}\nfunction closed({why,\
-wasOpen,isLeft,code}){talk.end();takeAnswers();talk.drop();hands.stop();if(talk.hasLeft)Object.assign(talk,{ha\
-sLeft:!1,connectLine:$,name:$});if(wasOpen||!closed.last||closed.last!==why)log.tell(isLeft?\"you have left\":\
-`disconnected: ${why}`);closed.last=wasOpen?$:why;if(!wasOpen&&code===1006)findOrigin();showWorld()}\nasync fu\
-nction findOrigin(){let text;try{text=await(await fetch(\"/play\",{cache:\"no-store\"})).text()}catch{return}l\
-et origin=originIn(text),isOther=origin&&origin!==location.origin;if(isOther)link.stop();let told=isOther?`thi\
-s world is played at ${origin}, and this page is at ${location.origin}: open it there`:`the server does not le\
-t this page play: is ${location.origin} its own?`;if(closed.told!==told)log.tell(closed.told=told)}\nfunction \
-stateText(state){if(state===\"on\")return talk.isIn?`${talk.name} #${world.me}`:\"connected, no name yet\";ret\
-urn{dialing:\"connecting ..\",waiting:\"disconnected\",off:\"not connected\"}[state]}\nfunction showState(stat\
-e){part(\"state\").textContent=stateText(state);document.body.dataset.state=state;part(\"connect\").hidden=sta\
-te===\"on\"||state===\"dialing\";showGuest();showWait()}\nfunction showWait(){let left=Math.ceil((link?.nextAt\
--performance.now())/1000);part(\"wait\").textContent=link?.state===\"waiting\"&&left>0?`, next try in ${left} \
-s`:\"\"}\nfunction showGuest(){let isGuest=link.isOn()&&!talk.isIn&&!isBack,wasGuest=!part(\"guest\").hidden;p\
-art(\"guest\").hidden=!isGuest;if(isGuest&&!wasGuest&&!part(\"line\").value)part(\"name\").focus();part(\"line\
-\").placeholder=isGuest||!link.isOn()?PLACES.guest:PLACES.player}\nfunction showWorld(){link.hasLeft=talk.hasL\
-eft;showGuest();map.show(world);hands.soon()}\nlet unread=0;\nfunction showUnread(more){unread=document.hidden\
-?unread+more:0;document.title=unread?`(${unread}) ${NAME}`:NAME}\nfunction turnPage(way){part(\"log\").scrollB\
-y({top:way*part(\"log\").clientHeight*0.8})}\nfunction fit(){let{height}=visualViewport;document.documentEleme\
-nt.style.setProperty(\"--tall\",`${height}px`);document.body.classList.toggle(\"keyed\",height<480&&innerWidth\
-<832)}\nasync function save(){let needed=Math.max(0,...talk.proofs.map(({version})=>version));if(!talk.history\
-||talk.history.version<needed){let answer=await checks.act.ask(\"@history\");if(!answer||headOf(answer)!==\"hi\
-story\")return log.tell(`not saved: ${answer?.lines[0] ?? \"not connected\"}`)}let{name,text}=recordOf(talk),c\
-ount=talk.proofs.length;saveFile(name,text);let how=count===1?`mud_check < ${name}`:\"docs/CHECKER.md, Records\
-, or Check a saved file in the menu\";log.tell(`saved ${name}, with ${count} ${count === 1 ? \"proof\" : \"pro\
-ofs\"}. To check it: ${how}`)}\nasync function checkFile(file){if(!file)return;let found=await new checker.Che\
-cker().judgeRecord(await file.text()),lines=found.map(({text,version,says})=>(version?`[${version}] ${says}: `\
-:\"\")+inWords(text));log.show({kind:\"page\",lines:[`${file.name}:`,...lines]})}\nfunction keep(){let setting\
-s=Object.fromEntries([\"looks\",\"checks\",\"times\"].map(id=>[id,part(id).checked])),{connectLine,name,latest\
-,volume}=talk;keepInTab({latest,volume,world:world.kept(),layout:map.layout.kept(),log:log.book.kept(),typed:l\
-ine.earlier.lines,draft:part(\"line\").value,connectLine,name,settings,isOpen:part(\"map\").open})}\nfunction \
-restore(){let{layout,log:entries=[],connectLine,name,latest,volume=1,settings={},isOpen,draft=\"\"}=kept;if(la\
-yout)map.layout=Layout.from(layout);Object.assign(talk,{connectLine,name,latest,volume});for(let[id,value]of O\
-bject.entries(settings))part(id).checked=value;for(let entry of entries)log.show({...entry,isSilent:!0});if(en\
-tries.length)log.show({kind:\"page\",lines:[\"above: what this tab had before\"],isSilent:!0});part(\"line\").\
-value=draft;part(\"map\").open=isOpen??matchMedia(\"(min-width: 52.01rem)\").matches}\nfunction listen(){on(pa\
-rt(\"connect\"),()=>link.connect());on(part(\"ask\"),()=>openHelp(part(\"help\"),part(\"commands\")));on(part(\
-\"save\"),save);on(part(\"save-log\"),()=>saveFile(\"log.txt\",log.book.text()));on(part(\"file\"),({target})=\
->checkFile(target.files[0]).then(()=>(target.value=\"\")),\"change\");on(part(\"checks\"),({target})=>(checks.\
-isAlways=target.checked),\"change\");on(part(\"times\"),showTimes,\"change\");on(part(\"guest\"),event=>{event\
-.preventDefault();let name=typed(part(\"name\").value).trim();if(name)say(`connect ${/ /.test(name) ? `\"${nam\
-e}\"` : name}`)},\"submit\");on(window,()=>link.hurry(),\"online\");on(window,keep,\"pagehide\");on(document,(\
-)=>{if(document.hidden)return keep();showUnread(0);link.hurry()},\"visibilitychange\");on(visualViewport,fit,\
-\"resize\");setInterval(showWait,1000)}\nfunction showTimes(){document.body.classList.toggle(\"timed\",part(\"\
-times\").checked)}\nrestore();\nlisten();\nchecks.isAlways=part(\"checks\").checked;\nshowTimes();\nfit();\nma\
-p.show(world);\nlink.connect();\n</script></body></html>\n";
+his world is played at (.*?)$/,ended:/^(?:\\(server stops\\)|\\(journal fault\\)|\\(ended by the host\\))$/,ho\
+st:/^\\(host: (.*?)\\)$/,volume:/^\\(volume (\\d+)\\)$/,welcome:/^welcome #(\\d+)$/,walked:/^went by #(\\d+) t\
+o #(\\d+)$/,dug:/^dug (.*?)$/,newRoom:/^room #(\\d+)$/,newExit:/^exit #(\\d+)$/,newBack:/^exit back #(\\d+)$/,\
+made:/^made #(\\d+)$/,renamed:/^renamed #(\\d+)$/,recycled:/^recycled #(\\d+)$/,unlocked:/^unlocked #(\\d+)$/,\
+locked:/^(?:That exit is locked\\.|That place is locked\\.)$/,refused:/^(?:(.*?)\\.|(.*?)\\?)$/,named:/^(.*?) \
+#(\\d+)$/,contents:/^  contents (.*?)$/,exits:/^  exits (.*?)$/,leads:/^  from #(\\d+) to #(\\d+) cost (\\d+)$\
+/,held:/^inventory (.*?)$/,bye:/^bye$/,heard:/^(?:(.*?) says, \"(.*?)\"|(.*?) arrives\\.|(.*?) leaves by (.*?)\
+\\.)$/,route:/^route #(\\d+) to #(\\d+) cost (\\d+) by(.*?)$/,noWay:/^route #(\\d+) to #(\\d+) no way$/,meetin\
+g:/^(?:meet (.*?) at #(\\d+) cost (\\d+)|meet (.*?) no meeting)$/,history:/^history$/,historyEnd:/^end (\\d+)$\
+/,proof:/^proof$/,proofEnd:/^end$/};\nlet WORDS={connect:[\"connect\"],look:[\"look\",\"l\"],go:[\"go\"],dig:[\
+\"@dig\"],create:[\"@create\"],rename:[\"@rename\"],route:[\"route\"],meet:[\"meet\"],proof:[\"proof\"],to:[\"\
+to\",\"at\"],comma:[\", \"],hall:[\"The Hall\"]};\n\nlet MOST_TYPED=1000,MOST_NAMES=2000;\nfunction typed(line\
+){return line.replace(/\\t/g,\" \").replace(/[^ -~]/g,\"\").slice(0,MOST_TYPED)}\nfunction words(line){return \
+line.trim().split(/ +/).join(\" \")}\nclass World{constructor(){this.rooms=new Map();this.exits=new Map();this\
+.ties=new Map();this.visited=new Set();this.things=new Map();this.people=new Set();this.me=$;this.here=$;this.\
+route=[];this.walked=0;this.revision=0;this.age=0}clear(){for(let kept of[this.rooms,this.exits,this.ties,this\
+.visited,this.things,this.people])kept.clear();this.plan([]);this.age+=1}room(number,name){let known=this.room\
+s.get(number);if(this.rooms.has(number)&&(name===$||name===known))return;this.rooms.set(number,name??known);th\
+is.revision+=1}exit(number,told){let known=this.exits.get(number)??{},exit={...known,...told};if(this.exits.ha\
+s(number)&&Object.keys(told).every(key=>known[key]===told[key]))return;this.untie(number);this.exits.set(numbe\
+r,exit);for(let room of[exit.from,exit.to])if(room!==$)this.tie(number,room);this.revision+=1}tie(exit,room){t\
+his.room(room);if(!this.ties.has(room))this.ties.set(room,new Set());this.ties.get(room).add(exit)}untie(numbe\
+r){let{from,to}=this.exits.get(number)??{};this.ties.get(from)?.delete(number);this.ties.get(to)?.delete(numbe\
+r)}exitsOf(room){let ties=[...this.ties.get(room)??[]];return ties.filter(exit=>this.exits.get(exit).from===ro\
+om).sort((a,b)=>a-b)}arrive(room){this.here=room;this.room(room);this.visited.add(room);this.revision+=1}forge\
+t(number){for(let exit of[number,...this.ties.get(number)??[]]){this.untie(exit);this.exits.delete(exit)}for(l\
+et kept of[this.rooms,this.ties,this.visited,this.things])kept.delete(number);if(this.route.some(exit=>!this.e\
+xits.has(exit)))this.plan([]);this.revision+=1}plan(exits){this.route=exits;this.walked=0;this.revision+=1}thi\
+ng(number,name){this.things.set(number,name);if(this.things.size>MOST_NAMES)this.things.delete(this.things.key\
+s().next().value)}heard(name){this.people.add(name);if(this.people.size>MOST_NAMES)this.people.delete(this.peo\
+ple.values().next().value)}exitNamed(text,whole){let number=text.match(/^#(\\d{1,9})$/);if(number)return this.\
+exits.has(Number(number[1]))?Number(number[1]):$;let own=this.exitsOf(this.here).filter(exit=>this.exits.get(e\
+xit).name!==$),named=test=>own.filter(exit=>test(this.exits.get(exit).name.toLowerCase())),wanted=text.toLower\
+Case(),same=named(name=>name===wanted),found=same.length||whole?same:named(name=>name.startsWith(wanted));retu\
+rn found.length===1?found[0]:$}kept(){let{rooms,exits,visited,things,people,me,route,walked}=this;return{rooms\
+:[...rooms],exits:[...exits],visited:[...visited],things:[...things],people:[...people],me,route,walked}}stati\
+c from({rooms,exits,visited,things,people,me,route,walked}){let world=new World();for(let[number,name]of rooms\
+)world.room(number,name??$);for(let[number,exit]of exits)world.exit(number,exit);Object.assign(world,{visited:\
+new Set(visited),things:new Map(things),people:new Set(people),me});return Object.assign(world,{route,walked})\
+}}\n\nfunction behind(verb,line=\"\"){let[,first,rest]=line.match(/^(\\S*) *([^]*)$/);return WORDS[verb].inclu\
+des(first.toLowerCase())?rest:$}\nfunction aroundTo(text=\"\"){let[first,...rest]=text.split(new RegExp(` (${W\
+ORDS.to.join(\"|\")}) `,\"i\"));return[first,rest.slice(1).join(\" \")]}\nfunction listed(text){return text.sp\
+lit(WORDS.comma[0]).map(one=>one.match(SAID.named)).filter(Boolean).map(([,name,number])=>[Number(number),name\
+])}\nfunction firstName(text=\"\"){let name=text.replace(/\"/g,\"\").split(\",\")[0].trim();return name===\"\"\
+?$:name}\nfunction isRefusal(lines){return lines.length===1&&SAID.refused.test(lines[0])}\nfunction isLook(lin\
+e){return behind(\"look\",line)===\"\"}\nfunction headOf({kind,line,lines:[text]}){let heads=behind(\"look\",l\
+ine)===$?Object.keys(READERS):[\"named\"];return kind===\"reply\"?heads.find(name=>SAID[name].test(text)):$}\n\
+function readLook(world,[,number],line,lines){let[,name]=lines[0].match(SAID.named),isHere=isLook(line),furthe\
+r=row=>lines.slice(1).map(one=>one.match(SAID[row])).find(Boolean),exits=further(\"exits\"),contents=further(\
+\"contents\"),way=further(\"leads\");if(contents)for(let[thing,called]of listed(contents[1]))world.thing(thing\
+,called);if(way)world.exit(number,{name,from:Number(way[1]),to:Number(way[2])});if(isHere)world.arrive(number)\
+;if(isHere||exits||world.rooms.has(number))readRoom(world,number,name,exits?listed(exits[1]):[]);else if(!way)\
+world.thing(number,name)}\nfunction readRoom(world,number,name,exits){world.room(number,name);let now=new Map(\
+exits);for(let exit of world.exitsOf(number))if(!now.has(exit))world.forget(exit);for(let[exit,called]of now)w\
+orld.exit(exit,{name:called,from:number})}\nfunction readDug(world,_,line,[text]){let[doors,named]=aroundTo(be\
+hind(\"dig\",line)),[out,back]=doors.split(\"|\").map(firstName),made=text.match(SAID.dug)[1].split(WORDS.comm\
+a[0]),[room,exit,other]=[\"newRoom\",\"newExit\",\"newBack\"].map(row=>made.map(one=>one.match(SAID[row])?.[1]\
+).find(Boolean)).map(one=>one&&Number(one)),old=named.match(/^\"?#(\\d{1,9})\"?$/),to=room??(old?Number(old[1]\
+):$);if(room)world.room(to,firstName(named||doors));if(exit)world.exit(exit,{name:out,from:world.here,to});if(\
+other)world.exit(other,{name:back,from:to,to:world.here})}\nfunction readWalk(world,[exit,to]){world.exit(exit\
+,world.here===$?{to,locked:!1}:{from:world.here,to,locked:!1});let isNext=world.route[world.walked]===exit;wor\
+ld.arrive(to);if(isNext)world.walked+=1}\nfunction readLocked(world,_,line){let exit=world.exitNamed(behind(\"\
+go\",line)??line,behind(\"go\",line)===$);if(exit!==$)world.exit(exit,{locked:!0})}\nfunction readRenamed(worl\
+d,[number],line){let name=firstName(aroundTo(behind(\"rename\",line))[1]);if(name===$)return;if(world.rooms.ha\
+s(number))world.room(number,name);if(world.exits.has(number))world.exit(number,{name});if(world.things.has(num\
+ber))world.thing(number,name)}\nfunction exitsOnWay(text){return[...(text.match(SAID.route)?.[4]??\"\").matchA\
+ll(/#(\\d+)/g)].map(([,exit])=>Number(exit))}\nfunction readMade(world,[number],line){let name=firstName(behin\
+d(\"create\",line));if(name!==$)world.thing(number,name)}\nfunction readHeld(world,_,line,[text]){for(let[thin\
+g,name]of listed(text.match(SAID.held)[1]))world.thing(thing,name)}\nfunction readHistory(world,_,line,lines){\
+let objects=checker.told(lines.slice(1).join(\"\\n\")+\"\\n\"),{me,visited,route}=world;if(!objects)return;let\
+\x20locked=[...world.exits.keys()].filter(exit=>world.exits.get(exit).locked);for(let kept of[world.rooms,worl\
+d.exits,world.ties])kept.clear();for(let{number,name,isRoom,isExit,from,to}of objects)if(isRoom)world.room(num\
+ber,name??WORDS.hall[0]);else if(isExit)world.exit(number,{name,from,to});else if(name)world.thing(number,name\
+);for(let exit of locked)if(world.exits.has(exit))world.exit(exit,{locked:!0});for(let room of visited)if(!wor\
+ld.rooms.has(room))visited.delete(room);let here=objects.find(({number})=>number===me)?.place??world.here;if(h\
+ere!==$)world.arrive(here);if(route.some(exit=>!world.exits.has(exit)))world.plan([])}\nlet READERS={welcome:(\
+world,[me])=>Object.assign(world,{me,here:$}),walked:readWalk,dug:readDug,made:readMade,renamed:readRenamed,lo\
+cked:readLocked,held:readHeld,recycled:(world,[number])=>world.forget(number),unlocked:(world,[number])=>world\
+.exits.has(number)&&world.exit(number,{locked:!1}),route:(world,_,line,[text])=>world.plan(exitsOnWay(text)),n\
+oWay:world=>world.plan([]),history:readHistory,meeting(){},proof(){},bye(){},};\nfunction readAnswer(world,ent\
+ry){let{line,lines}=entry,head=headOf(entry);if(head)(READERS[head]??readLook)(world,lines[0].match(SAID[head]\
+).slice(1).map(Number),line,lines)}\nfunction readNotice(world,text){let heard=text.match(SAID.heard);if(heard\
+)world.heard(heard.slice(1).find(Boolean))}\n\nlet MOST_PROOFS=100;\nclass Conversation{constructor(world){thi\
+s.world=world??new World();this.history=$;this.proofs=[];this.onAnswer=()=>{};this.onEnd=()=>{};this.volume=1;\
+this.connectLine=$;this.name=$;this.begin()}begin(){this.end();this.tail=\"\";this.asked??=[];this.drop();this\
+.answer=$;this.hasLeft=!1;this.isIn=!1;this.before={volume:this.volume,version:this.latest};this.latest=0;this\
+.told=1;this.world.here=$}say(line,quiet=!1,answered=$){if(words(line)!==\"\")this.asked.push({line:words(line\
+),quiet,answered})}drop(){for(let{answered}of this.asked.splice(0))answered?.()}take(piece){let lines=(this.ta\
+il+piece).split(\"\\r\\n\"),entries=new Set();this.tail=lines.pop();for(let text of lines){let entry=this.take\
+Line(text);if(entry&&!entry.quiet)entries.add(entry)}if(this.tail===\"\")this.finish();return[...entries]}take\
+Line(text){let notice=text.match(SAID.notice),reply=text.match(SAID.reply);if(notice)return this.takeNotice(te\
+xt,Number(notice[1]),notice[2]);if(reply)return this.takeReply(Number(reply[1]),reply[2]);if(SAID.failed.test(\
+text))return this.takeRefusal(text);if(SAID.volume.test(text))this.takeVolume(Number(text.match(SAID.volume)[1\
+]));if([\"volume\",\"host\",\"ended\"].some(row=>SAID[row].test(text)))return{kind:\"host\",lines:[text]};if(!\
+this.answer)return{kind:\"greeting\",lines:[text]};this.answer.lines.push(text);return this.answer}takeVolume(\
+volume){this.told=volume;this.reach(0)}reach(version){let{volume}=this;this.end();this.volume=this.told;this.l\
+atest=volume===this.told?Math.max(this.latest,version):version;if(volume!==this.told)this.giveUp(volume)}giveU\
+p(volume){this.history=$;this.onEnd(volume,this.proofs.splice(0))}takeNotice(text,version,heard){this.reach(ve\
+rsion);readNotice(this.world,heard);return{kind:\"notice\",lines:[text],version}}takeReply(version,text){this.\
+reach(version);let asked=this.asked.shift()??{line:\"\",quiet:!1};this.answer={kind:\"reply\",version,volume:t\
+his.volume,...asked,lines:[text],isDone:!1};return this.answer}takeRefusal(text){this.end();let asked=this.ask\
+ed.shift()??{line:\"\",quiet:!1},refusal={kind:\"refusal\",...asked,lines:[text],isDone:!0};this.onAnswer(refu\
+sal);return refusal}finish(){if(this.answer&&isWhole(this.answer))this.done(this.answer)}done(answer){let isFi\
+rst=!answer.isDone,{length}=answer.lines;if(answer.read===length)return;Object.assign(answer,{isDone:!0,read:l\
+ength});this.read(answer);if(!isFirst)return;this.keep(answer);this.onAnswer(answer)}read(answer){let{line,lin\
+es,quiet}=answer,head=headOf(answer);if(!quiet&&isWhole(answer))readAnswer(this.world,answer);if(head===\"bye\
+\")this.hasLeft=!0;if(head!==\"welcome\")return;if(isBefore(answer,this.before)){this.world.clear();this.giveU\
+p(this.volume)}this.isIn=!0;this.connectLine=line;this.name=firstName(behind(\"connect\",line)?.replace(/^([^\
+\" ]+) .*$/,\"$1\"))}since({volume,version}){return volume===this.volume?this.latest-version:Infinity}end(){if\
+(this.answer)this.done(this.answer);this.answer=$}keep(answer){let{version,lines}=answer,text=lines.slice(1).j\
+oin(\"\\n\")+\"\\n\",head=headOf(answer);if(!isWhole(answer))return;if(head===\"history\")this.history={versio\
+n,text};if(head!==\"proof\")return;this.proofs.push({version,text});if(this.proofs.length>MOST_PROOFS)this.pro\
+ofs.shift()}}\nfunction isBefore(one,other){return one.volume<other.volume||(one.volume===other.volume&&one.ve\
+rsion<other.version)}\nfunction isWhole(answer){return SAID[`${headOf(answer)}End`]?.test(answer.lines.at(-1))\
+??!0}\n\nlet LONGEST_STEP=10,STRETCH=16,MOST_WEIGHED=5,PER_WAY=2,MOST_WORK=3000,SIDE=1<<14,MIDDLE=SIDE/2,KEPT_\
+WAY=100,PASSED=8,BESIDE=12,STEPS=new Map(Object.entries({north:[0,-1,0],south:[0,1,0],east:[1,0,0],west:[-1,0,\
+0],northeast:[1,-1,0],northwest:[-1,-1,0],southeast:[1,1,0],southwest:[-1,1,0],up:[0,0,1],down:[0,0,-1],n:[0,-\
+1,0],s:[0,1,0],e:[1,0,0],w:[-1,0,0],ne:[1,-1,0],nw:[-1,-1,0],se:[1,1,0],sw:[-1,1,0],u:[0,0,1],d:[0,0,-1],}));\
+\nfunction stepOf(exit){let{name}=exit;if(name===$||name.length>LONGEST_STEP)return $;return STEPS.get(name)??\
+STEPS.get(name.toLowerCase().replace(/^(north|south)[ -](east|west)$/,\"$1$2\"))}\nfunction isAlong([x,y,z],[d\
+x,dy,dz]){if(dz)return Math.sign(z)===dz;return z===0&&Math.sign(x)===dx&&Math.sign(y)===dy&&(!dx||!dy||Math.a\
+bs(x)===Math.abs(y))}\nlet AROUND=[];\nfor(let x=-9;x<=9;x+=1)for(let y=-9;y<=9;y+=1)if(x||y)AROUND.push([x,y]\
+);\nlet askew=([x,y])=>Math.hypot(x,y)+(x&&y?0:0.9);\nAROUND.sort((a,b)=>askew(a)-askew(b));\nfunction keyOf(x\
+,y,z){return((z+MIDDLE)*SIDE+x+MIDDLE)*SIDE+y+MIDDLE}\nclass Sheet{constructor(){this.rooms=new Map();this.pas\
+sed=new Map();this.spent=new Map();this.right=this.low=0}isFree([x,y,z]){return!this.rooms.has(keyOf(x,y,z))}p\
+ut(room,[x,y,z]){this.rooms.set(keyOf(x,y,z),room);this.right=Math.max(this.right,x);this.low=Math.max(this.lo\
+w,y)}candidate([x,y,z],step,number){let up=step?step[2]:0,straight=!step?0:up?1:STRETCH,far=number+1;if(number\
+<straight)return up?[x,y,z+up]:[x+step[0]*far,y+step[1]*far,z];let round=AROUND[number-straight];return round?\
+[x+round[0],y+round[1],z+up]:[this.right+far-straight-AROUND.length,y,z+up]}some(cell,step){let name=`${cell} \
+${step}`,found=[];for(let number=this.spent.get(name)??0;found.length<PER_WAY;number+=1){let one=this.candidat\
+e(cell,step,number);if(this.isFree(one))found.push(one);else if(!found.length)this.spent.set(name,number+1)}re\
+turn found}}\nfunction passed([x,y,z],[x2,y2,z2],fits){let count=z===z2?Math.max(Math.abs(x2-x),Math.abs(y2-y)\
+):0,found=0;if(count>2*STRETCH)return found;for(let at=1;at<count;at+=1){let across=x+(x2-x)*at/count,down=y+(\
+y2-y)*at/count;if(fits(keyOf(Math.round(across),Math.round(down),z)))found+=1}return found}\nclass Layout{cons\
+tructor(){this.cells=new Map();this.work=0}has(sheet){return[...this.cells.values()].some(cell=>cell.sheet===s\
+heet)}cell(room){let cell=this.cells.get(room),hall=this.cells.get(0);if(!cell)return $;let[x,y,z]=hall?.sheet\
+===cell.sheet?hall.at:[0,0,0];return{sheet:cell.sheet,x:cell.at[0]-x,y:cell.at[1]-y,z:cell.at[2]-z}}update(wor\
+ld){for(let[room,{sheet,at}]of this.cells){if(world.rooms.has(room))continue;sheet.rooms.delete(keyOf(...at));\
+this.cells.delete(room)}let fresh=[...world.rooms.keys()].filter(room=>!this.cells.has(room)).sort((a,b)=>a-b)\
+;let most=this.work+MOST_WORK;this.spread(world,fresh.flatMap(room=>this.neighbours(world,room).filter(({cell}\
+)=>cell).map(({step})=>({other:room,step}))),most);for(let room of fresh){if(this.cells.has(room))continue;if(\
+this.work>=most)return!1;this.settle(room,new Sheet(),[0,0,0],[]);this.spread(world,this.neighbours(world,room\
+),most)}return this.joinAll(world,most)}neighbours(world,room){let found=[];for(let number of world.ties.get(r\
+oom)??[]){let exit=world.exits.get(number),isOut=exit.from===room,other=isOut?exit.to:exit.from;if(other===$||\
+other===room)continue;let step=stepOf(exit);found.push({other,cell:this.cells.get(other),step:isOut?step?.map(\
+one=>-one):step})}return found}spread(world,ways,most){let named=[],other=[],seen=new Set(),sort=({other:room,\
+cell,step})=>{let key=step?-room-1:room;if(cell||seen.has(key))return;seen.add(key);(step?named:other).push(ro\
+om)};ways.forEach(sort);for(let first=0,second=0;first<named.length||second<other.length;){if(this.work>=most)\
+return;let room=first<named.length?named[first++]:other[second++];if(this.cells.has(room))continue;let near=th\
+is.neighbours(world,room);this.place(room,near.filter(({cell})=>cell));near.forEach(sort)}}place(room,placed){\
+let first=placed.find(({step})=>step)??placed[0],{sheet}=first.cell,ways=[first,...placed].filter(({cell})=>ce\
+ll.sheet===sheet).slice(0,MOST_WEIGHED),best,most=-Infinity;for(let{cell:{at},step}of ways)for(let cell of she\
+et.some(at,step)){let worth=this.worth(sheet,cell,ways);if(worth>most)[best,most]=[cell,worth]}this.settle(roo\
+m,sheet,best,ways)}settle(room,sheet,at,ways){let pass=key=>sheet.passed.set(key,(sheet.passed.get(key)??0)+1)\
+;sheet.put(room,at);this.cells.set(room,{sheet,at});this.work+=1;for(let{cell}of ways)passed(cell.at,at,pass)}\
+worth(sheet,cell,ways){let isTaken=key=>sheet.rooms.has(key),worth=-BESIDE*(sheet.passed.get(keyOf(...cell))??\
+0);for(let{cell:{at},step}of ways){let apart=cell.map((one,axis)=>one-at[axis]);this.work+=1;if(step&&isAlong(\
+apart,step))worth+=KEPT_WAY;worth-=Math.abs(apart[0])+Math.abs(apart[1])+(apart[2]&&!step?KEPT_WAY:0);worth-=P\
+ASSED*passed(at,cell,isTaken)}return worth}joinAll(world,most){let apart=[...world.exits.values()].filter(({fr\
+om,to})=>{let[a,b]=[this.cells.get(from),this.cells.get(to)];return a&&b&&a.sheet!==b.sheet});for(let exit of[\
+...apart.filter(stepOf),...apart.filter(exit=>!stepOf(exit))]){if(this.work>=most)return!1;this.join(exit)}ret\
+urn!0}join(exit){let from=this.cells.get(exit.from),to=this.cells.get(exit.to),step=stepOf(exit);if(from.sheet\
+===to.sheet)return;let isFirst=from.sheet.rooms.size>=to.sheet.rooms.size,[stays,goes]=isFirst?[from,to]:[to,f\
+rom],way=step&&!isFirst?step.map(one=>-one):step;this.move(goes.sheet,stays.sheet,this.offset(stays,goes,way))\
+}offset(stays,goes,step){let rooms=[...goes.sheet.rooms.values()].map(room=>this.cells.get(room).at);for(let n\
+umber=0;;number+=1){let cell=stays.sheet.candidate(stays.at,step,number),apart=cell.map((one,axis)=>one-goes.a\
+t[axis]),isFree=rooms.every(at=>{this.work+=1;return stays.sheet.isFree(at.map((one,axis)=>one+apart[axis]))})\
+;if(isFree)return apart}}move(sheet,target,apart){for(let room of sheet.rooms.values()){let at=this.cells.get(\
+room).at.map((one,axis)=>one+apart[axis]);target.put(room,at);this.cells.set(room,{sheet:target,at})}}kept(){l\
+et sheets=[...new Set([...this.cells.values()].map(({sheet})=>sheet))];return[...this.cells].map(([room,{sheet\
+,at}])=>[room,sheets.indexOf(sheet),...at])}static from(kept){let layout=new Layout(),sheets=[];for(let[room,n\
+umber,...at]of kept)layout.settle(room,sheets[number]??=new Sheet(),at,[]);return layout}}\n\nlet MOST_ROOMS=8\
+00,MOST_WAYS=2000,MOST_LABELS=600,MOST_LISTED=500,MOST_NAMED=40,LETTER=7.3,LINE=15,CELL={wide:190,tall:108},BO\
+X={wide:118,tall:42},STUB=26,TWO_LINES=34,ONE_LINE=17,LABELLED=0.7,BEND=0.62,LONGEST=18,BUCKET=96,SPOTS=[[0,1]\
+,[0,-1],[1,1],[1,-1]],ASIDE=[[1,1],[-1,1],[1,-1],[-1,-1],[1,0],[-1,0]];\nfunction short(text,most){return text\
+.length>most?text.slice(0,Math.max(1,most-2))+\"..\":text}\nfunction around(x,y,wide,tall){return{x:x-wide/2,y\
+:y-tall/2,wide,tall}}\nfunction overlap(a,b){return a.x<b.x+b.wide&&b.x<a.x+a.wide&&a.y<b.y+b.tall&&b.y<a.y+a.\
+tall}\nclass Taken{constructor(){this.squares=new Map()}isFree(box){let{x,y,wide,tall}=box;for(let across=Math\
+.floor(x/BUCKET);across<=(x+wide)/BUCKET;across+=1)for(let down=Math.floor(y/BUCKET);down<=(y+tall)/BUCKET;dow\
+n+=1){let square=this.squares.get(across*4096+down);if(square&&square.some(other=>overlap(box,other)))return!1\
+}return!0}add(box){let{x,y,wide,tall}=box;for(let across=Math.floor(x/BUCKET);across<=(x+wide)/BUCKET;across+=\
+1)for(let down=Math.floor(y/BUCKET);down<=(y+tall)/BUCKET;down+=1){let key=across*4096+down;if(this.squares.ha\
+s(key))this.squares.get(key).push(box);else this.squares.set(key,[box])}}}\nfunction kindOf(world,room){if(roo\
+m===world.here)return\"here\";if(world.visited.has(room))return\"seen\";let ways=[...world.ties.get(room)??[]]\
+.map(exit=>world.exits.get(exit)).filter(({to})=>to===room);return ways.length&&ways.every(({locked})=>locked)\
+?\"locked\":\"heard\"}\nfunction sizeOf({scale}){return{wide:BOX.wide*scale,tall:BOX.tall*scale}}\nfunction mi\
+ddleOf({x,y,scale,wide,tall},cell){return[wide/2+(cell.x-x)*CELL.wide*scale,tall/2+(cell.y-y)*CELL.tall*scale]\
+}\nfunction boxesOf(world,layout,view){let{wide,tall}=view,size=sizeOf(view),boxes=[],count=0;for(let room of \
+layout.cells.keys()){let cell=layout.cell(room);if(cell.sheet!==view.sheet||cell.z!==view.floor)continue;count\
++=1;let[x,y]=middleOf(view,cell);if(Math.abs(x-wide/2)>wide/2+size.wide||Math.abs(y-tall/2)>tall/2+size.tall)c\
+ontinue;boxes.push({room,middle:[x,y],...around(x,y,size.wide,size.tall)})}let far=({middle:[x,y],room})=>room\
+===world.here?-1:Math.hypot(x-wide/2,y-tall/2);if(boxes.length>MOST_ROOMS)boxes.sort((a,b)=>far(a)-far(b)).len\
+gth=MOST_ROOMS;for(let box of boxes)Object.assign(box,{kind:kindOf(world,box.room),lines:linesOf(world,box),ma\
+rks:[]});return{boxes,count}}\nfunction linesOf(world,{room,wide,tall}){let most=Math.floor((wide-8)/LETTER),n\
+ame=world.rooms.get(room)??\"?\";if(tall>=TWO_LINES)return[short(name,most),`#${room}`];return tall>=ONE_LINE&\
+&most>=3?[short(name,most)]:[]}\nfunction bundlesOf(world,places){let bundles=new Map();for(let room of places\
+.keys())for(let number of world.ties.get(room)??[]){let exit=world.exits.get(number),{from,to}=exit;if(from===\
+$||(from!==room&&places.has(from)))continue;let key=to===$?-number:Math.min(from,to)*65536+Math.max(from,to);i\
+f(bundles.has(key))bundles.get(key).exits.push([number,exit]);else if(bundles.size<MOST_WAYS)bundles.set(key,{\
+from,to,exits:[[number,exit]]})}return[...bundles.values()]}\nfunction edge({middle:[x,y],wide,tall},dx,dy){le\
+t part=Math.min(dx?wide/2/Math.abs(dx):Infinity,dy?tall/2/Math.abs(dy):Infinity);return[x+dx*part,y+dy*part]}\
+\nfunction labelOf(exits,most){let[,{name}]=exits[0];return short(name??\"?\",most)+(exits.length>1?` +${exits\
+.length - 1}`:\"\")}\nclass Picture{constructor(world,layout,view){Object.assign(this,{world,layout,view,ways:\
+[],labels:[],taken:new Taken(),aside:new Map()});Object.assign(this,boxesOf(world,layout,view));this.places=ne\
+w Map(this.boxes.map(box=>[box.room,box]));for(let box of this.boxes)this.taken.add(box);let bundles=bundlesOf\
+(world,this.places);for(let bundle of bundles)if(this.ways.length<MOST_WAYS)this.draw(bundle);this.isWhole=thi\
+s.boxes.length<MOST_ROOMS&&Math.max(bundles.length,this.ways.length)<MOST_WAYS}boxOf(room){let cell=this.layou\
+t.cell(room);return this.places.get(room)??(cell&&{middle:middleOf(this.view,cell),room,...sizeOf(this.view)})\
+}draw({from,to,exits}){let out=exits.filter(([,exit])=>exit.from===from);if(to===$||to===from)return out.forEa\
+ch(one=>this.drawStub(this.places.get(from),one));let back=exits.filter(([,exit])=>exit.from!==from),a=this.la\
+yout.cell(from),b=this.layout.cell(to);if(!a||!b||a.sheet!==b.sheet)return this.drawAway(out,back);if(a.z===b.\
+z)return this.drawWay(this.boxOf(from),this.boxOf(to),out,back);if(a.z===this.view.floor)this.drawFloor(this.p\
+laces.get(from),out,b.z>a.z);if(b.z===this.view.floor)this.drawFloor(this.places.get(to),back,a.z>b.z)}drawAwa\
+y(out,back){let drawn=[...out,...back].filter(([,{from}])=>this.places.has(from));for(let one of drawn)this.dr\
+awStub(this.places.get(one[1].from),one)}look(exits){let{route,walked}=this.world,at=exits.map(([number])=>rou\
+te.lastIndexOf(number)),isLocked=exits.some(([,{locked}])=>locked),isRoute=at.some(one=>one>=walked),isWalked=\
+!isRoute&&at.some(one=>one>=0);return{exits:exits.map(([number])=>number),isLocked,isRoute,isWalked}}drawWay(f\
+irst,second,out,back){let[x1,y1]=first.middle,[x2,y2]=second.middle,dx=x2-x1,dy=y2-y1,far=Math.hypot(dx,dy),bo\
+w=this.isHidden(first.room,second.room)?2*BEND*CELL.tall*this.view.scale/far:0,bend=[(x1+x2)/2-dy*bow,(y1+y2)/\
+2+dx*bow],aims=[[bend[0]-x1,bend[1]-y1],[bend[0]-x2,bend[1]-y2]],ends=[edge(first,...aims[0]),edge(second,...a\
+ims[1])],arrow=!back.length?1:!out.length?0:$;this.ways.push({ends,bend:bow?bend:$,arrow,...this.look([...out,\
+...back])});if(out.length)this.label(ends[0],aims[0],out);if(back.length)this.label(ends[1],aims[1],back)}isHi\
+dden(from,to){let a=this.layout.cells.get(from),b=this.layout.cells.get(to);return passed(a.at,b.at,key=>a.she\
+et.rooms.has(key))>0}drawStub(box,[number,exit]){let step=stepOf(exit);if(step?.[2]&&exit.to===$)return this.d\
+rawFloor(box,[[number,exit]],step[2]>0);let count=this.aside.get(box.room)??0,isNamed=step&&!step[2];if(!isNam\
+ed)this.aside.set(box.room,count+1);if((!isNamed&&count>=ASIDE.length)||this.ways.length>=MOST_WAYS)return;let\
+[dx,dy]=isNamed?step:ASIDE[count],aim=[dx*CELL.wide,dy*CELL.tall],far=Math.hypot(...aim),start=edge(box,...aim\
+),stub=STUB*Math.min(1,this.view.scale),end=[start[0]+aim[0]/far*stub,start[1]+aim[1]/far*stub];this.ways.push\
+({ends:[start,end],isStub:!0,...this.look([[number,exit]])});this.label(start,aim,[[number,exit]],exit.to===ex\
+it.from?\" (here)\":\"\")}drawFloor(box,exits,isUp){if(!box||!exits.length)return;let x=box.x+box.wide*(isUp?0\
+.86:0.14),y=box.y+(isUp?0:box.tall);box.marks.push({x,y,isUp,isKnown:exits.some(([,{to}])=>to!==$),...this.loo\
+k(exits)});this.label([x,y],[0,isUp?-1:1],exits)}label([x,y],[dx,dy],exits,note=\"\"){let{scale}=this.view,far\
+=Math.hypot(dx,dy);if(scale<LABELLED||this.labels.length>=MOST_LABELS)return;let most=Math.abs(dx)>Math.abs(dy\
+)*2?Math.max(5,Math.floor((far-BOX.wide*scale)/LETTER)):LONGEST,text=labelOf(exits,most)+note,wide=text.length\
+*LETTER,[ux,uy]=[dx/far,dy/far],look=this.look(exits);for(let[along,side]of SPOTS){let on=(Math.abs(ux)*wide+M\
+ath.abs(uy)*LINE)/2+4+along*LINE,off=((Math.abs(uy)*wide+Math.abs(ux)*LINE)/2+(look.isLocked?8:3))*side,box=ar\
+ound(x+ux*on-uy*off,y+uy*on+ux*off,wide,LINE);if(!this.taken.isFree(box))continue;this.taken.add(box);this.lab\
+els.push({...box,text,...look});return}}}\nfunction listOf(world,most=MOST_LISTED){return[...world.rooms.keys(\
+)].sort((a,b)=>a-b).slice(0,most).map(room=>{let exits=world.exitsOf(room),more=exits.length-MOST_NAMED,kind=k\
+indOf(world,room),ways=exits.slice(0,MOST_NAMED).map(number=>wayText(world,number));if(more>0)ways.push(`and $\
+{more} more`);let note={here:\", you are here\",seen:\"\",heard:\", not seen yet\",locked:\", locked\"}[kind],\
+name=`${world.rooms.get(room) ?? \"a room\"} #${room}${note}`;return{room,text:name+(ways.length?\": \"+ways.j\
+oin(\", \"):\"\")}})}\nfunction wayText(world,number){let exit=world.exits.get(number),to=exit.to===$?\"\":` t\
+o #${exit.to}`,isRoute=world.route.includes(number,world.walked),notes=(exit.locked?\" (locked)\":\"\")+(isRou\
+te?\" (on the route)\":\"\");return(exit.name??\"an exit\")+to+notes}\n\nlet FIRST_WAIT=1000,MOST_WAIT=30000,L\
+ASTED=10000,HAS_LEFT=1000,REASONS=new Map([[1001,\"the server has stopped\"],[1006,\"the server is not reached\
+\"],[1011,\"the server is out of memory\"],[1013,\"the server is full\"]]);\nfunction whyClosed(code,reason,wa\
+sOpen){if(code===1006&&wasOpen)return\"the connection was lost\";return reason?`the server says: ${reason}`:RE\
+ASONS.get(code)??`code ${code}`}\nclass Connection{constructor(tools,heard){Object.assign(this,{tools,heard,st\
+ate:\"off\",wait:FIRST_WAIT})}turn(state){this.state=state;this.heard.state(state)}isOn(){return this.state===\
+\"on\"}connect(){if(this.state===\"on\"||this.state===\"dialing\")return;this.tools.cancel(this.timer);this.op\
+enedAt=$;let socket=this.socket=this.tools.dial();socket.onopen=()=>this.opened();socket.onmessage=event=>this\
+.heard.text(event.data);socket.onclose=event=>this.closed(event.code,event.reason);this.turn(\"dialing\")}hurr\
+y(){if(this.state===\"waiting\")this.connect()}opened(){this.openedAt=this.tools.now();this.turn(\"on\");this.\
+heard.open()}send(line){this.socket.send(line)}closed(code,reason=\"\"){let{tools}=this,wasOpen=this.openedAt!\
+==$;if(wasOpen&&tools.now()-this.openedAt>=LASTED)this.wait=FIRST_WAIT;let isLeft=this.hasLeft||code===HAS_LEF\
+T;this.hasLeft=!1;if(!isLeft){let wait=this.wait*(0.5+tools.chance());this.wait=Math.min(MOST_WAIT,this.wait*2\
+);this.nextAt=tools.now()+wait;this.timer=tools.later(()=>this.connect(),wait)}this.turn(isLeft?\"off\":\"wait\
+ing\");this.heard.closed({code,reason,why:whyClosed(code,reason,wasOpen),wasOpen,isLeft})}stop(){this.tools.ca\
+ncel(this.timer);this.turn(\"off\")}}\nfunction originIn(text){return text.trim().match(SAID.elsewhere)?.[1]}\
+\n\nlet MOST_TYPED_LINES=200;\nfunction namesAfter(world,first,exits){let rooms=[...world.rooms.values()].filt\
+er(Boolean),things=[...world.things.values()],line=behind(\"proof\",first)??first,has=verb=>behind(verb,line)!\
+==$;if(has(\"route\"))return rooms;if(has(\"meet\"))return[...world.people,...things];return has(\"go\")?exits\
+:[...exits,...things,...world.people,...rooms]}\nfunction completions(world,verbs,text){let exits=world.exitsO\
+f(world.here).map(exit=>world.exits.get(exit).name).filter(Boolean),starts=[...text.matchAll(/(?:^|[ ,])(?=[^ \
+,])/g)].map(({index,0:gap})=>index+gap.length);for(let start of starts){let head=text.slice(0,start),tail=text\
+.slice(start).toLowerCase(),names=start===0?[...verbs,...exits]:namesAfter(world,text,exits),found=[...new Set\
+(names)].filter(name=>name.toLowerCase().startsWith(tail)),longer=found.filter(name=>name.length>tail.length);\
+if(longer.length)return longer.sort().map(name=>head+name)}return[]}\nclass Earlier{constructor(lines=[]){this\
+.lines=lines;this.rest()}add(line){if(this.lines[this.lines.length-1]!==line)this.lines.push(line);if(this.lin\
+es.length>MOST_TYPED_LINES)this.lines.shift();this.rest()}rest(){this.at=this.lines.length;this.draft=$}move(w\
+ay,text){this.draft??=text;for(let at=this.at+way;at>=0&&at<this.lines.length;at+=way)if(this.lines[at].starts\
+With(this.draft)&&this.lines[at]!==text)return this.lines[this.at=at];if(way<0)return $;let{draft}=this;this.r\
+est();return draft}}\n\nlet MOST_BY_ITSELF=20000,HISTORY_GAP=10000;\nfunction isProvable(entry){return!entry.q\
+uiet&&[\"route\",\"noWay\",\"meeting\"].includes(headOf(entry))}\nfunction isProof(entry){return headOf(entry)\
+===\"proof\"&&isWhole(entry)}\nlet DOUBTS=[[/^refused: version (\\d+)/,\"the history has no version $1 yet\"],\
+[/^refused: no such player (#\\d+)/,\"$1 is no player\"],[/^refused: wrong start (#\\d+)/,\"$1 stands elsewher\
+e\"],[/^refused: start label (#\\d+)/,\"the costs of $1 do not begin with 0\"],[/^refused: arc (#\\d+) of (#\\\
+d+)/,\"exit $1 is open to $2, and leads on for less than was told\"],[/^refused: walk broken at (\\d+) of (#\\\
+d+)/,\"exit $1 of the way of $2 does not begin where the one before ends\"],[/^refused: walk locked at (\\d+) \
+of (#\\d+)/,\"exit $1 of the way of $2 is locked\"],[/^refused: walk cost of (#\\d+)/,\"the way of $1 does not\
+\x20cost what was told\"],[/^refused: conclusion/,\"the answer does not follow from the ways\"],];\nfunction i\
+nWords(line){let[pattern,words]=DOUBTS.find(([one])=>one.test(line))??[];return pattern?`refused: ${line.match\
+(pattern)[0].replace(pattern, words)}`:line.replace(\"accepted\",\"checked\")}\nfunction markFor({verdict,text\
+,says},entry,proof){let mark=(kind,words)=>({kind,isDone:!0,text:words}),isSame=entry.volume===proof.volume,is\
+Now=isSame&&entry.version===proof.version,at=`at ${proof.version}${isSame ? \"\" : ` of volume ${proof.volume}\
+`}`;if(verdict!==\"accepted\")return mark(\"alarm\",inWords(text));if(entry===proof||says===entry.lines.join(\
+\"\\n\"))return mark(\"checked\",isNow?\"checked\":`checked ${at}`);return isNow?mark(\"alarm\",`refused: the \
+proof is of another answer: ${says}`):mark(\"checked\",`not the answer any more: ${at} ${says}, checked`)}\ncl\
+ass Checks{constructor(judge,act){Object.assign(this,{judge,act,volume:1,last:Promise.resolve(),isAlways:!0})}\
+answered(entry){if(entry.quiet||!(isProvable(entry)||isProof(entry)))return;let isByItself=this.isAlways&&entr\
+y.version<=MOST_BY_ITSELF&&isProvable(entry);if(isByItself)this.check(entry);else this.mark(entry,{kind:\"offe\
+r\",text:\"check\",task:()=>this.check(entry)})}mark(entry,mark){entry.mark=mark;this.act.mark(entry)}check(en\
+try){let show=part=>this.mark(entry,{kind:\"\",text:`checking ${Math.round(100 * part)} %`}),task=()=>this.che\
+ck(entry),again=fault=>({kind:\"offer\",text:`not checked: ${fault.message} Again?`,task});show(0);this.last=t\
+his.last.then(()=>this.find(entry,show)).catch(again).then(mark=>this.mark(entry,mark));return this.last}async\
+\x20find(entry,show){let proof=isProof(entry)?entry:await this.ask(`proof ${entry.line}`);if(!isProof(proof))t\
+hrow new Error(proof.lines[0]);let{judge}=this;this.stays(proof.volume);let fault=judge.count<proof.version?aw\
+ait this.learn(judge,proof.volume,show):$;return markFor(fault??await judge.check(proof.lines.slice(1).join(\"\
+\\n\")+\"\\n\",show),entry,proof)}stays(volume){if(volume!==this.volume)throw new Error(`volume ${volume} has \
+ended.`)}async ask(line){let answer=await this.act.ask(line);if(!answer)throw new Error(\"the connection was l\
+ost\");return answer}async learn(judge,volume,show){let wait=(this.learnedAt??-HISTORY_GAP)+HISTORY_GAP-this.a\
+ct.now();if(wait>0)await new Promise(go=>this.act.later(go,wait));let answer=await this.ask(\"@history\");this\
+.learnedAt=this.act.now();if(headOf(answer)!==\"history\")throw new Error(answer.lines[0]);this.stays(volume);\
+let found=await judge.history(answer.lines.slice(1).join(\"\\n\")+\"\\n\",show);return found.verdict?found:$}}\
+\n\nlet BEHIND=250;\nfunction onceAFrame(task){let isAsked=!1,run=()=>{isAsked=!1;task()};return()=>{if(isAske\
+d)return;isAsked=!0;if(document.hidden)setTimeout(run,BEHIND);else requestAnimationFrame(run)}}\nfunction on(n\
+ode,task,name=\"click\"){node.addEventListener(name,task,{passive:!1})}\nfunction element(name,kind,text=\"\")\
+{let node=document.createElement(name);node.className=kind;node.textContent=text;return node}\n\nlet MOST_ENTR\
+IES=5000,MOST_LINES=150000,MOST_KEPT=600,GROUP=100,FOLDED=20,MOST_OPEN=1000,MOST_SPOKEN=12,SIGNS={mine:\"> \",\
+page:\"-- \"};\nfunction isLong({kind,lines}){return lines.length>=FOLDED||(kind===\"reply\"&&(SAID.history.te\
+st(lines[0])||SAID.proof.test(lines[0])))}\nfunction timeOf(entry){let time=new Date(entry.time),two=number=>S\
+tring(number).padStart(2,\"0\");return`${two(time.getHours())}:${two(time.getMinutes())}`}\nfunction textOf({k\
+ind,version,lines,mark}){let first=kind===\"reply\"?`[${version}] `:SIGNS[kind]??\"\";return first+lines.join(\
+\"\\n\")+(mark?.text?`  {${mark.text}}`:\"\")}\nclass Book{constructor(){this.entries=[];this.lines=0}add(entr\
+y){entry.time??=Date.now();entry.counted=entry.lines.length;this.entries.push(entry);this.lines+=entry.counted\
+}grown(entry){this.lines+=entry.lines.length-entry.counted;entry.counted=entry.lines.length}isFull(group){retu\
+rn this.entries.length>MOST_ENTRIES||(this.lines>MOST_LINES&&this.entries.length>group)}drop(count){for(let{co\
+unted}of this.entries.splice(0,count))this.lines-=counted}text(){return this.entries.map(entry=>`${timeOf(entr\
+y)} ${textOf(entry)}\\n`).join(\"\")}kept(){return this.entries.slice(-MOST_KEPT).map(({kind,version,line,line\
+s,time,mark})=>{let told=isLong({kind,lines})?[lines[0]+` (${lines.length} lines)`]:lines;return{kind,version,\
+line,lines:told,time,mark:mark?.isDone?mark:$}})}}\nclass Log{constructor(parts,book){Object.assign(this,{part\
+s,book,waiting:[],changed:new Set(),groups:[],isAtEnd:!0,unseen:0});this.soon=onceAFrame(()=>this.flush());on(\
+parts.log,()=>this.scrolled(),\"scroll\");on(parts.fresh,()=>this.toEnd());new ResizeObserver(()=>this.isAtEnd\
+&&this.pin()).observe(parts.log)}show(entry){if(entry.node)this.changed.add(entry);else if(!entry.isWaiting)th\
+is.waiting.push(entry);entry.isWaiting=!0;this.soon()}tell(text,kind=\"page\"){this.show({kind,lines:[text]})}\
+mine(line){this.isAtEnd=!0;this.show({kind:\"mine\",lines:[line]})}flush(){let entries=this.waiting.splice(0),\
+isAtEnd=this.isAtEnd;for(let entry of entries){this.book.add(entry);this.last().append(entry.node=nodeOf(entry\
+))}for(let entry of this.changed)this.renew(entry);this.changed.clear();this.trim();this.speak(entries);if(isA\
+tEnd)this.pin();else this.count(entries.reduce((sum,entry)=>sum+(isLong(entry)?1:entry.lines.length),0))}last(\
+){let group=this.groups[this.groups.length-1];if(group&&group.childElementCount<GROUP)return group;let next=el\
+ement(\"div\",\"\");this.groups.push(next);this.groups[this.groups.length-3]?.classList.add(\"done\");this.par\
+ts.entries.append(next);return next}trim(){while(this.groups.length>1&&this.book.isFull(this.groups[0].childEl\
+ementCount)){let group=this.groups.shift();this.book.drop(group.childElementCount);group.remove()}}renew(entry\
+){this.book.grown(entry);let node=nodeOf(entry);if(entry.node.open)node.open=!0;entry.node.replaceWith(node);e\
+ntry.node=node}speak(entries){let{spoken}=this.parts,heard=entries.filter(entry=>entry.kind!==\"mine\"&&entry.\
+isSilent!==!0),said=heard.slice(0,MOST_SPOKEN).map(entry=>isLong(entry)?`${entry.lines[0]}, ${entry.lines.leng\
+th} lines`:entry.lines.join(\", \"));if(heard.length>MOST_SPOKEN)said.push(`and ${heard.length - MOST_SPOKEN} \
+more`);for(let text of said)spoken.append(element(\"p\",\"\",text));while(spoken.childElementCount>3*MOST_SPOK\
+EN)spoken.firstChild.remove()}scrolled(){let{log}=this.parts;this.isAtEnd=log.scrollTop+log.clientHeight>=log.\
+scrollHeight-24;if(this.isAtEnd)this.count(-this.unseen)}pin(){this.parts.log.scrollTop=1e9;this.count(-this.u\
+nseen)}toEnd(){this.isAtEnd=!0;this.pin()}count(lines){if(!lines)return;this.unseen+=lines;this.parts.fresh.hi\
+dden=this.unseen===0;this.parts.fresh.textContent=this.unseen===1?\"1 new line\":`${this.unseen} new lines`}}\
+\nfunction classesOf({kind,line,lines}){if(kind!==\"reply\")return kind;return isRefusal(lines)?\"reply refuse\
+d\":isLook(line??\"\")?\"reply place\":\"reply\"}\nfunction nodeOf(entry){let{kind,version,lines,mark}=entry,i\
+sFolded=isLong(entry),node=element(isFolded?\"details\":\"p\",classesOf(entry)),head=isFolded?element(\"summar\
+y\",\"\"):node,heard=kind===\"notice\"?lines[0].match(SAID.notice):$;node.dataset.time=timeOf(entry);if(kind==\
+=\"reply\"&&version!==$)head.append(element(\"span\",\"version\",`[${version}] `));if(heard)head.append(elemen\
+t(\"span\",\"version\",`(${heard[1]}) `));if(isFolded)node.append(head,...folded(node,lines));head.append(isFo\
+lded?`${lines[0]} `:heard?heard[2]:(SIGNS[kind]??\"\")+lines.join(\"\\n\"));if(isFolded)head.append(element(\"\
+b\",\"\",`${lines.length.toLocaleString(\"en\")} lines`));if(mark)head.append(markOf(mark));return node}\nfunc\
+tion folded(node,lines){let inner=element(\"pre\",\"\");node.setAttribute(\"aria-live\",\"off\");on(node,()=>{\
+if(!node.open||inner.textContent)return;let more=lines.length-MOST_OPEN,rest=more>0?`\\n.. and ${more} more: s\
+ave the log`:\"\";inner.textContent=lines.slice(1,MOST_OPEN).join(\"\\n\")+rest},\"toggle\");return[inner]}\nf\
+unction markOf({text,kind,task}){let node=element(task?\"button\":\"span\",`mark ${kind}`,text);if(task)Object\
+.assign(node,{type:\"button\",onclick:task});return node}\n\nlet INKS=[\"back\",\"fore\",\"dim\",\"mark\",\"of\
+f\",\"room\",\"code\"];\nfunction inksOf(element){let style=getComputedStyle(element);return Object.fromEntrie\
+s(INKS.map(name=>[name,style.getPropertyValue(`--${name}`).trim()]))}\nfunction paint(pen,picture,ink){let{wid\
+e,tall}=picture.view;pen.clearRect(0,0,wide,tall);Object.assign(pen,{font:`12px ${ink.code}`,textAlign:\"cente\
+r\",textBaseline:\"middle\",lineJoin:\"round\"});for(let way of picture.ways)paintWay(pen,way,ink);for(let lab\
+el of picture.labels)paintLabel(pen,label,ink);for(let box of picture.boxes)paintRoom(pen,box,ink);for(let way\
+\x20of picture.ways)if(way.isLocked)paintLock(pen,...halfway(way),ink);let here=picture.boxes.find(({kind})=>k\
+ind===\"here\");if(picture.pointer&&!here)paintPointer(pen,picture.pointer,ink)}\nfunction paintWay(pen,{ends:\
+[[x1,y1],[x2,y2]],bend,arrow,isStub,isLocked,isRoute,isWalked},ink){let isMarked=isRoute||isWalked;pen.strokeS\
+tyle=pen.fillStyle=isMarked?ink.mark:isLocked?ink.off:ink.dim;pen.lineWidth=isRoute?4:isLocked||isWalked?2:1.5\
+;pen.setLineDash(isWalked?[2,5]:isLocked?[6,4]:isStub?[3,3]:[]);pen.beginPath();pen.moveTo(x1,y1);if(bend)pen.\
+quadraticCurveTo(...bend,x2,y2);else pen.lineTo(x2,y2);pen.stroke();pen.setLineDash([]);let from=bend??(arrow?\
+[x1,y1]:[x2,y2]);if(arrow!==$)paintArrow(pen,from,arrow?[x2,y2]:[x1,y1])}\nfunction halfway({ends:[a,b],bend})\
+{return a.map((one,axis)=>(one+b[axis]+2*(bend?.[axis]??(one+b[axis])/2))/4)}\nfunction paintArrow(pen,[x1,y1]\
+,[x2,y2]){let turn=Math.atan2(y2-y1,x2-x1);pen.beginPath();pen.moveTo(x2,y2);for(let side of[-0.4,0.4])pen.lin\
+eTo(x2-10*Math.cos(turn+side),y2-10*Math.sin(turn+side));pen.fill()}\nfunction paintLock(pen,x,y,ink){pen.fill\
+Style=pen.strokeStyle=ink.off;pen.fillRect(x-5,y-2,10,8);pen.lineWidth=2;pen.beginPath();pen.arc(x,y-2,3.5,Mat\
+h.PI,0);pen.stroke()}\nfunction paintRoom(pen,{x,y,wide,tall,kind,lines,marks},ink){let isHere=kind===\"here\"\
+,isSmall=tall<ONE_LINE;pen.fillStyle=isHere&&isSmall?ink.mark:kind===\"heard\"?ink.back:ink.room;pen.strokeSty\
+le=isHere?ink.mark:kind===\"locked\"?ink.off:ink.dim;pen.lineWidth=isHere?3:1.5;pen.setLineDash(kind===\"heard\
+\"?[5,3]:[]);pen.beginPath();pen.roundRect(x,y,wide,tall,Math.min(7,tall/3));pen.fill();pen.stroke();pen.setLi\
+neDash([]);if(kind===\"locked\"&&!isSmall)pen.strokeRect(x+3.5,y+3.5,wide-7,tall-7);if(kind===\"locked\")paint\
+Lock(pen,x+1,y+1,ink);if(isHere)paintHere(pen,x,y+tall/2,ink);lines.forEach((text,at)=>{pen.fillStyle=at||kind\
+===\"heard\"?ink.dim:ink.fore;pen.fillText(text,x+wide/2,y+tall/2+(at-(lines.length-1)/2)*LINE)});for(let mark\
+\x20of marks)paintMark(pen,mark,ink)}\nfunction paintHere(pen,x,y,ink){pen.fillStyle=ink.mark;pen.beginPath();\
+for(let[dx,dy]of[[-8,0],[0,-8],[8,0],[0,8]])pen.lineTo(x+dx,y+dy);pen.fill()}\nfunction paintMark(pen,{x,y,isU\
+p,isKnown,isLocked,isRoute},ink){pen.fillStyle=isKnown?isRoute?ink.mark:isLocked?ink.off:ink.fore:ink.back;pen\
+.strokeStyle=isRoute?ink.mark:isLocked?ink.off:ink.fore;pen.lineWidth=1.5;pen.beginPath();for(let[dx,dy]of[[-7\
+,4],[7,4],[0,-7]])pen.lineTo(x+dx,y+(isUp?dy:-dy));pen.closePath();pen.fill();pen.stroke();if(isLocked)paintLo\
+ck(pen,x+11,y,ink)}\nfunction paintLabel(pen,{x,y,wide,tall,text,isRoute,isLocked},ink){pen.fillStyle=ink.back\
+;pen.fillRect(x,y,wide,tall);pen.fillStyle=isRoute?ink.mark:isLocked?ink.off:ink.fore;pen.fillText(text,x+wide\
+/2,y+tall/2+0.5,wide)}\nfunction paintPointer(pen,{x,y,turn},ink){pen.fillStyle=ink.mark;pen.beginPath();for(l\
+et[far,side]of[[13,0],[11,2.5],[11,-2.5]])pen.lineTo(x+far*Math.cos(turn+side),y+far*Math.sin(turn+side));pen.\
+fill();pen.fillText(\"you\",x-24*Math.cos(turn),y-16*Math.sin(turn))}\n\nlet SCALES={least:0.08,most:2,step:1.\
+25},FADE=1500,MOVED=5,PAN=60;\nclass MapView{constructor(parts,onRoom){Object.assign(this,{parts,onRoom,layout\
+:new Layout(),age:0,drawn:-1,listed:-1,fingers:new Map()});this.view={sheet:$,floor:0,x:0,y:0,scale:1,wide:0,t\
+all:0};this.soon=onceAFrame(()=>this.draw());this.pen=parts.canvas.getContext(\"2d\");this.listen();new Resize\
+Observer(()=>this.soon()).observe(parts.window);on(parts.map,()=>this.show(this.world),\"toggle\");on(parts.wo\
+rds,()=>this.list(),\"toggle\");on(matchMedia(\"(prefers-color-scheme: dark)\"),this.soon,\"change\")}show(wor\
+ld){let isMoved=this.world!==world||this.here!==world.here;Object.assign(this,{world,here:world.here});this.pa\
+rts.summary.textContent=this.summary();if(isMoved)this.isMovedByHand=!1;if(world.revision!==this.drawn)this.so\
+on();this.list();if(world.route.length&&world.walked>=world.route.length)this.fade()}summary(){let{rooms,here}\
+=this.world,place=here===$?\"\":`: ${rooms.get(here) ?? \"a room\"} #${here}`;return`Map${place}`}fade(){let{r\
+oute}=this.world;if(this.fading===route)return;this.fading=route;setTimeout(()=>{if(this.world.route===route)t\
+his.world.plan([]);this.show(this.world)},FADE)}draw(){let{parts,view,world}=this;if(!world||!parts.map.open||\
+!parts.window.clientWidth)return;if(this.age!==world.age)this.layout=new Layout();this.age=world.age;let isSet\
+tled=this.layout.update(world),{clientWidth:wide,clientHeight:tall}=parts.window;Object.assign(view,{wide,tall\
+});this.follow();let picture=new Picture(world,this.layout,view),ratio=devicePixelRatio;picture.pointer=this.p\
+ointer();let[width,height]=[Math.round(wide*ratio),Math.round(tall*ratio)],{canvas}=parts;if(canvas.width!==wi\
+dth||canvas.height!==height)Object.assign(canvas,{width,height});this.pen.setTransform(ratio,0,0,ratio,0,0);pa\
+int(this.pen,picture,inksOf(parts.window));Object.assign(this,{picture,drawn:isSettled?world.revision:-1});par\
+ts.note.textContent=isSettled?this.note(picture):\"Placing rooms ..\";parts.floor.textContent=this.floorName()\
+;if(!isSettled)this.soon()}follow(){let{view}=this,cell=this.layout.cell(this.here)??this.layout.cell(0);if(!c\
+ell||(this.isMovedByHand&&this.layout.has(view.sheet)))return;let isOther=view.sheet!==cell.sheet,[x,y]=middle\
+Of(view,cell),{wide,tall}=sizeOf(view);Object.assign(view,{sheet:cell.sheet,floor:cell.z});let isIn=x>wide&&x<\
+view.wide-wide&&y>tall&&y<view.tall-tall;if(isOther||!isIn)Object.assign(view,{x:cell.x,y:cell.y})}pointer(){l\
+et{view}=this,cell=this.layout.cell(this.here);if(!cell||cell.sheet!==view.sheet||cell.z!==view.floor)return $\
+;let[x,y]=middleOf(view,cell),edge=18;if(x>0&&x<view.wide&&y>0&&y<view.tall)return $;return{x:Math.max(edge,Ma\
+th.min(view.wide-edge,x)),y:Math.max(edge,Math.min(view.tall-edge,y)),turn:Math.atan2(y-view.tall/2,x-view.wid\
+e/2)}}note({boxes,count,isWhole}){let all=this.world.rooms.size,apart=all-count;if(!all)return\"Type look to s\
+ee where you are.\";let part=isWhole?\"\":`Drawn in part: ${boxes.length} rooms, the nearest. `;return`${part}\
+${all} ${all === 1 ? \"room\" : \"rooms\"}`+(apart?`, ${apart} on other floors or apart`:\"\")}floorName(){let\
+{floor}=this.view;return floor?`floor ${floor > 0 ? \"+\" : \"\"}${floor}`:\"floor 0\"}list(){let{world,parts}\
+=this;if(!world||!parts.words.open||!parts.map.open||this.listed===world.revision)return;this.listed=world.rev\
+ision;let wanted=listOf(world);this.items??=new Map();for(let[room,{item}]of this.items)if(!world.rooms.has(ro\
+om))item.remove(),this.items.delete(room);let after=parts.rooms.firstElementChild;for(let{room,text}of wanted)\
+{let{item,button}=this.items.get(room)??this.newItem(room);if(button.textContent!==text)button.textContent=tex\
+t;if(item===after)after=after.nextElementSibling;else parts.rooms.insertBefore(item,after)}let more=world.room\
+s.size-wanted.length;parts.more.textContent=more>0?`${more} more rooms are not listed.`:\"\"}newItem(room){let\
+\x20item=element(\"li\",\"\"),button=element(\"button\",\"\");button.type=\"button\";on(button,()=>this.onRoom\
+(room));item.append(button);this.items.set(room,{item,button});return this.items.get(room)}listen(){let{window\
+:pane,up,down,larger,smaller,whole,home}=this.parts;on(pane,event=>this.press(event),\"pointerdown\");on(pane,\
+event=>this.drag(event),\"pointermove\");for(let name of[\"pointerup\",\"pointercancel\"])on(pane,event=>this.\
+lift(event),name);on(pane,event=>{event.preventDefault();this.zoom(SCALES.step**-Math.sign(event.deltaY),event\
+.offsetX,event.offsetY)},\"wheel\");on(pane,event=>this.key(event),\"keydown\");on(up,()=>this.change({floor:t\
+his.view.floor+1}));on(down,()=>this.change({floor:this.view.floor-1}));on(larger,()=>this.zoom(SCALES.step));\
+on(smaller,()=>this.zoom(1/SCALES.step));on(whole,()=>this.whole());on(home,()=>this.home())}change(values){th\
+is.isMovedByHand=!0;Object.assign(this.view,values);this.soon()}home(){this.change({sheet:$,scale:Math.max(1,t\
+his.view.scale)});this.isMovedByHand=!1}whole(){let{view}=this,cells=[...this.layout.cells.keys()].map(room=>t\
+his.layout.cell(room)).filter(({sheet,z})=>sheet===view.sheet&&z===view.floor);if(!cells.length)return;let ran\
+ge=axis=>cells.reduce(([a,b],cell)=>[Math.min(a,cell[axis]),Math.max(b,cell[axis])],[Infinity,-Infinity]),[lef\
+t,right]=range(\"x\"),[top,low]=range(\"y\"),fits=Math.min(view.wide/((right-left+1)*CELL.wide),view.tall/((lo\
+w-top+1)*CELL.tall));this.change({x:(left+right)/2,y:(top+low)/2,scale:Math.max(SCALES.least,Math.min(1,fits))\
+})}zoom(times,x=this.view.wide/2,y=this.view.tall/2){let{view}=this,scale=Math.max(SCALES.least,Math.min(SCALE\
+S.most,view.scale*times)),part=1/view.scale-1/scale,dx=(x-view.wide/2)/CELL.wide,dy=(y-view.tall/2)/CELL.tall;\
+this.change({scale,x:view.x+dx*part,y:view.y+dy*part})}pan(dx,dy){let{view}=this;this.change({x:view.x-dx/CELL\
+.wide/view.scale,y:view.y-dy/CELL.tall/view.scale})}press(event){this.fingers.set(event.pointerId,[event.offse\
+tX,event.offsetY]);this.moved=this.fingers.size>1?MOVED:0}drag(event){let from=this.fingers.get(event.pointerI\
+d),to=[event.offsetX,event.offsetY];if(!from)return;let[dx,dy]=[to[0]-from[0],to[1]-from[1]],others=[...this.f\
+ingers].filter(([id])=>id!==event.pointerId);this.moved+=Math.hypot(dx,dy);if(this.moved<MOVED)return;event.cu\
+rrentTarget.setPointerCapture(event.pointerId);this.fingers.set(event.pointerId,to);if(!others.length)return t\
+his.pan(dx,dy);let[,other]=others[0],apart=([x,y])=>Math.hypot(x-other[0],y-other[1]);this.zoom(apart(to)/Math\
+.max(1,apart(from)),(to[0]+other[0])/2,(to[1]+other[1])/2)}lift(event){let from=this.fingers.get(event.pointer\
+Id);this.fingers.delete(event.pointerId);if(!from||this.moved>=MOVED||event.type!==\"pointerup\")return;let{bo\
+xes=[],pointer}=this.picture??{},box=boxes.find(one=>overlap(one,around(...from,1,1)));if(box)this.onRoom(box.\
+room);else if(pointer&&Math.hypot(from[0]-pointer.x,from[1]-pointer.y)<40)this.home()}key(event){let moves={Ar\
+rowLeft:[PAN,0],ArrowRight:[-PAN,0],ArrowUp:[0,PAN],ArrowDown:[0,-PAN]},{floor}=this.view,tasks={\"+\":()=>thi\
+s.zoom(SCALES.step),\"-\":()=>this.zoom(1/SCALES.step),Home:()=>this.home(),PageUp:()=>this.change({floor:floo\
+r+1}),PageDown:()=>this.change({floor:floor-1}),0:()=>this.whole()},task=moves[event.key]?()=>this.pan(...move\
+s[event.key]):tasks[event.key];if(!task||event.ctrlKey||event.metaKey)return;event.preventDefault();task()}}\n\
+\nlet MOST_BUTTONS=60;\nfunction isCommand(verbs,line){return verbs.includes(line.split(\" \")[0].toLowerCase(\
+))}\nfunction lineFor(world,number,verbs){let{name}=world.exits.get(number),isPlain=name!==$&&/^[A-Za-z][A-Za-\
+z0-9 '-]*$/.test(name)&&words(name)===name;return isPlain&&!isCommand(verbs,name)&&world.exitNamed(name,!0)===\
+number?name:`go #${number}`}\nclass Trip{constructor(entry){let head=headOf(entry),[text]=entry.lines,[from,to\
+,cost]=text.match(SAID[head]).slice(1).map(Number);Object.assign(this,{entry,from,to,cost,exits:exitsOnWay(tex\
+t),isNoWay:head===\"noWay\"});Object.assign(this,{isRunning:!1,fault:\"\"})}isThere(world){return!this.isNoWay\
+&&world.here===this.to}next(world){let{route,walked}=world,exit=this.exits[walked],isShown=route.length===this\
+.exits.length&&route.every((one,at)=>one===this.exits[at]),from=walked?world.exits.get(this.exits[walked-1])?.\
+to:this.from;return isShown&&exit!==$&&from===world.here?exit:$}stepped(world,entry){let isOn=entry!==$&&headO\
+f(entry)===\"walked\";if(!isOn)this.fault=entry?entry.lines[0]:\"the connection was lost\";let exit=isOn&&this\
+.isRunning?this.next(world):$;this.isRunning=exit!==$;return exit}text(world){let name=`${world.rooms.get(this\
+.to) ?? \"room\"} #${this.to}`,count=this.exits.length;if(this.isNoWay)return`No way to ${name}`;if(this.isThe\
+re(world))return`You are at ${name}`;let way=`cost ${this.cost}, exit ${world.walked + 1} of ${count}`;return`\
+To ${name}: ${way}`+(this.fault?`. Stopped: ${this.fault}`:\"\")}}\nclass Hands{constructor(parts,world,verbs,\
+act){Object.assign(this,{parts,world,verbs,act});this.soon=onceAFrame(()=>this.draw());on(parts.step,()=>this.\
+go(!1));on(parts.all,()=>this.trip?.isRunning?this.stop():this.go(!0));on(parts.again,()=>this.act.say(this.tr\
+ip.entry.line));on(parts.close,()=>this.close())}answered(entry){if([\"route\",\"noWay\"].includes(headOf(entr\
+y)))this.trip=new Trip(entry);this.soon()}go(all){let exit=this.trip?.next(this.world);if(exit===$)return;Obje\
+ct.assign(this.trip,{isRunning:all,fault:\"\"});this.take(this.trip,exit)}take(trip,exit){this.act.say(`go #${\
+exit}`,entry=>{let next=trip.stepped(this.world,entry);if(next!==$&&trip===this.trip)this.take(trip,next);else\
+\x20this.act.arrived();this.soon()});this.soon()}stop(){if(this.trip)this.trip.isRunning=!1;this.soon()}close(\
+){this.stop();this.trip=$;this.world.plan([]);this.act.arrived();this.soon()}draw(){this.drawExits();this.endT\
+rip();let{parts,trip,world}=this;parts.route.hidden=!trip;if(!trip)return;let next=trip.next(world),since=this\
+.act.since(trip.entry),{mark,volume}=trip.entry,isOpen=next!==$,left=trip.exits.length-world.walked,isLost=!is\
+Open&&!trip.isNoWay&&!trip.isThere(world);parts.told.textContent=trip.text(world)+(isLost?\". You left this wa\
+y\":\"\");parts.mark.textContent=mark?.text??\"\";parts.mark.className=`mark ${mark?.kind ?? \"\"}`;parts.age.\
+textContent=since===Infinity?`of volume ${volume}`:since>0?`${since} ${since === 1 ? \"change\" : \"changes\"}\
+\x20since`:\"\";parts.again.hidden=!(since>0||isLost);parts.step.hidden=!isOpen||trip.isRunning;parts.step.tex\
+tContent=isOpen?`Go: ${world.exits.get(next)?.name ?? `#${next}`}`:\"\";parts.all.hidden=!isOpen||(left<2&&!tr\
+ip.isRunning);parts.all.textContent=trip.isRunning?\"Stop\":`Go all ${left}`}endTrip(){let{trip}=this,isThere=\
+trip?.isThere(this.world);if(isThere)trip.wasThere=!0;else if(trip?.wasThere)this.trip=$}drawExits(){let{parts\
+,world}=this,exits=world.exitsOf(world.here).slice(0,MOST_BUTTONS),hadFocus=parts.exits.contains(document.acti\
+veElement);while(parts.exits.childElementCount>exits.length)parts.exits.lastChild.remove();while(parts.exits.c\
+hildElementCount<exits.length)parts.exits.append(this.exitButton());exits.forEach((number,at)=>this.drawExit(p\
+arts.exits.children[at],number));if(hadFocus&&!parts.exits.contains(document.activeElement))parts.line.focus()\
+}exitButton(){let button=element(\"button\",\"exit\");button.type=\"button\";button.append(element(\"b\",\"\")\
+,element(\"small\",\"\"));on(button,()=>this.act.say(lineFor(this.world,Number(button.dataset.exit),this.verbs\
+)));return button}drawExit(button,number){let{name,to,locked}=this.world.exits.get(number),[way,room]=button.c\
+hildren,place=to===$?\"\":this.world.rooms.get(to)??`#${to}`,text=locked?`${place} (locked)`.trim():place,isNe\
+xt=this.trip?.next(this.world)===number;if(way.textContent!==(name??`#${number}`))way.textContent=name??`#${nu\
+mber}`;if(room.textContent!==text)room.textContent=text;button.dataset.exit=number;button.className=`exit${loc\
+ked ? \" locked\" : \"\"}${isNext ? \" next\" : \"\"}`}}\n\nclass Line{constructor(form,input,act,lines){Objec\
+t.assign(this,{input,act,earlier:new Earlier(lines),offers:[]});on(form,event=>this.submit(event),\"submit\");\
+on(input,event=>this.key(event),\"keydown\");on(input,()=>{this.earlier.rest();this.offers=[]},\"input\")}subm\
+it(event){event.preventDefault();let line=typed(this.input.value);if(line===\"\"||!this.act.send(line))return;\
+this.earlier.add(line);this.set(\"\")}set(text){this.input.value=text;this.input.setSelectionRange(text.length\
+,text.length)}key(event){let{key}=event,isPlain=!event.ctrlKey&&!event.altKey&&!event.metaKey,tasks={ArrowUp:(\
+)=>this.back(-1),ArrowDown:()=>this.back(1),Escape:()=>this.clear(),Tab:()=>this.complete(event.shiftKey),Page\
+Up:()=>this.act.page(-1),PageDown:()=>this.act.page(1)};if(key!==\"Tab\"&&key!==\"Shift\")this.offers=[];if(!i\
+sPlain||!tasks[key])return;if(tasks[key]()!==!1)event.preventDefault()}back(way){let text=this.earlier.move(wa\
+y,this.input.value);if(text!==$)this.set(text)}clear(){this.set(\"\");this.earlier.rest()}complete(isBack){let\
+\x20text=this.input.value;if(text===\"\")return!1;if(!this.offers.length||!this.offers.includes(text)){this.of\
+fers=completions(this.act.world,this.act.verbs,text);if(this.offers.length)this.offers.push(text)}if(!this.off\
+ers.length)return!1;let at=this.offers.indexOf(text),count=this.offers.length;this.set(this.offers[(at+(isBack\
+?count-1:1))%count]);return!0}}\n\nfunction verbsOf(commands){let codes=([typed])=>typed.replace(/ \\(.*|, whi\
+ch .*/,\"\").split(\"`\").filter((_,at)=>at%2),lines=commands.flatMap(codes);return[...new Set(lines.map(line=\
+>line.match(/^@?[a-z]+/)?.[0]).filter(Boolean))]}\nfunction withCode(text){return text.split(\"`\").map((part,\
+at)=>at%2?element(\"code\",\"\",part):part)}\nfunction rowOf(cells){let row=element(\"tr\",\"\");for(let text \
+of cells){let cell=element(\"td\",\"\");cell.append(...withCode(text));row.append(cell)}return row}\nfunction \
+openHelp(dialog,body){if(!body.childElementCount)body.append(...COMMANDS.map(rowOf));dialog.showModal()}\n\nle\
+t KEPT=\"seamountcup\",FORM=1,GIVEN_UP=600000;\nfunction keepInTab(value){try{sessionStorage.setItem(KEPT,JSON\
+.stringify({form:FORM,...value}))}catch{return!1}return!0}\nfunction keptInTab(){try{let kept=JSON.parse(sessi\
+onStorage.getItem(KEPT));sessionStorage.removeItem(KEPT);return kept?.form===FORM?kept:$}catch{return $}}\nfun\
+ction saveFile(name,text){let link=document.createElement(\"a\");link.href=URL.createObjectURL(new Blob([text]\
+,{type:\"text/plain\"}));link.download=name;link.click();setTimeout(()=>URL.revokeObjectURL(link.href),GIVEN_U\
+P)}\nfunction recordOf({history,proofs,volume}){let text=checker.record(history.text,proofs.map(proof=>proof.t\
+ext));return{name:`${volume > 1 ? `volume-${volume}-` : \"\"}record-${history.version}.txt`,text}}\n\nlet PLAC\
+ES={guest:\"connect NAME\",player:\"say Hello\"},NAME=document.title,part=id=>document.getElementById(id),part\
+s=(...ids)=>Object.fromEntries(ids.map(id=>[id,part(id)])),later=(task,wait)=>setTimeout(task,wait),kept=keptI\
+nTab()??{},talk=new Conversation(kept.world&&World.from(kept.world)),{world}=talk,verbs=verbsOf(COMMANDS),log=\
+new Log(parts(\"log\",\"entries\",\"fresh\",\"spoken\"),new Book()),map=new MapView({...parts(\"map\",\"canvas\
+\",\"note\",\"floor\",\"up\",\"down\",\"larger\",\"smaller\",\"whole\",\"home\",\"words\",\"rooms\",\"more\"),\
+window:part(\"picture\"),summary:part(\"map-name\")},askWay),link=new Connection({dial:()=>new WebSocket(locat\
+ion.origin.replace(/^http/,\"ws\")+\"/play\"),now:()=>performance.now(),later,cancel:timer=>clearTimeout(timer\
+),chance:Math.random,},{open:opened,text:heard,closed,state:showState}),hands=new Hands(parts(\"exits\",\"rout\
+e\",\"told\",\"mark\",\"age\",\"again\",\"step\",\"all\",\"close\",\"line\"),world,verbs,{say:(line,answered)=\
+>say(line,{answered}),since:entry=>talk.since(entry),arrived}),line=new Line(part(\"form\"),part(\"line\"),{se\
+nd:text=>say(text),world,verbs,page:turnPage},kept.typed),checks=new Checks($,{ask:text=>new Promise(answered=\
+>say(text,{quiet:!0,answered})||answered($)),later,now:()=>performance.now(),mark:entry=>(log.show(entry),hand\
+s.soon()),});\nfunction say(text,{quiet=!1,isUnseen=!1,answered}={}){if(!link.isOn()){if(!quiet)log.tell(`not \
+connected${part(\"line\").value ? \": your line waits\" : \"\"}`);return!1}if(!quiet&&!isUnseen)log.mine(text)\
+;talk.say(text,quiet,answered);link.send(text);return!0}\nfunction askWay(room){say(`route to #${room}`)}\nfun\
+ction arrived(){if(part(\"looks\").checked&&world.here!==lookedAt&&link.isOn())say(\"look\",{isUnseen:!0});loo\
+kedAt=world.here}\nlet lookedAt,isBack=!1;\nfunction opened(){talk.begin();beginChecks();lookedAt=$;let{connec\
+tLine}=talk;if(connectLine)isBack=say(connectLine,{answered:()=>(isBack=!1)})}\nfunction heard(text){let entri\
+es=talk.take(text);for(let entry of entries)log.show(entry);takeAnswers();if(document.hidden)showUnread(entrie\
+s.filter(({kind})=>kind!==\"greeting\").length);showWorld()}\nfunction beginChecks(){Object.assign(checks,{jud\
+ge:new checker.Checker(),volume:talk.volume})}\nfunction offerProofs(volume,proofs){let task=()=>saveFile(`vol\
+ume-${volume}-proofs.txt`,proofs.map(({text})=>text).join(\"\"));log.show({kind:\"page\",lines:[`volume ${volu\
+me} has ended, proofs of it: ${proofs.length}`],mark:{kind:\"offer\",text:\"save them\",task}})}\nlet tasks=[]\
+;\ntalk.onAnswer=entry=>tasks.push(()=>answered(entry));\ntalk.onEnd=(volume,proofs)=>{beginChecks();if(proofs\
+.length)tasks.push(()=>offerProofs(volume,proofs))};\nfunction takeAnswers(){for(let task of tasks.splice(0))t\
+ask()}\nfunction answered(entry){entry.answered?.(entry);if(entry.quiet||entry.kind!==\"reply\")return;let hea\
+d=headOf(entry);if(head===\"welcome\")welcomed();else if(head===\"walked\"&&!hands.trip?.isRunning)arrived();i\
+f(isLook(entry.line))lookedAt=world.here;hands.answered(entry);checks.answered(entry)}\nfunction welcomed(){pa\
+rt(\"state\").textContent=stateText(\"on\");hands.trip=$;if(part(\"looks\").checked)say(\"look\",{isUnseen:!0}\
+);if(document.activeElement===part(\"name\")||document.activeElement===document.body)part(\"line\").focus()}\n\
+function closed({why,wasOpen,isLeft,code}){talk.end();takeAnswers();talk.drop();hands.stop();if(talk.hasLeft)O\
+bject.assign(talk,{hasLeft:!1,connectLine:$,name:$});if(wasOpen||!closed.last||closed.last!==why)log.tell(isLe\
+ft?\"you have left\":`disconnected: ${why}`);closed.last=wasOpen?$:why;if(!wasOpen&&code===1006)findOrigin();s\
+howWorld()}\nasync function findOrigin(){let text;try{text=await(await fetch(\"/play\",{cache:\"no-store\"})).\
+text()}catch{return}let origin=originIn(text),isOther=origin&&origin!==location.origin;if(isOther)link.stop();\
+let told=isOther?`this world is played at ${origin}, and this page is at ${location.origin}: open it there`:`t\
+he server does not let this page play: is ${location.origin} its own?`;if(closed.told!==told)log.tell(closed.t\
+old=told)}\nfunction stateText(state){if(state===\"on\")return talk.isIn?`${talk.name} #${world.me}`:\"connect\
+ed, no name yet\";return{dialing:\"connecting ..\",waiting:\"disconnected\",off:\"not connected\"}[state]}\nfu\
+nction showState(state){part(\"state\").textContent=stateText(state);document.body.dataset.state=state;part(\"\
+connect\").hidden=state===\"on\"||state===\"dialing\";showGuest();showWait()}\nfunction showWait(){let left=Ma\
+th.ceil((link?.nextAt-performance.now())/1000);part(\"wait\").textContent=link?.state===\"waiting\"&&left>0?`,\
+\x20next try in ${left} s`:\"\"}\nfunction showGuest(){let isGuest=link.isOn()&&!talk.isIn&&!isBack,wasGuest=!\
+part(\"guest\").hidden;part(\"guest\").hidden=!isGuest;if(isGuest&&!wasGuest&&!part(\"line\").value)part(\"nam\
+e\").focus();part(\"line\").placeholder=isGuest||!link.isOn()?PLACES.guest:PLACES.player}\nfunction showWorld(\
+){link.hasLeft=talk.hasLeft;showGuest();map.show(world);hands.soon()}\nlet unread=0;\nfunction showUnread(more\
+){unread=document.hidden?unread+more:0;document.title=unread?`(${unread}) ${NAME}`:NAME}\nfunction turnPage(wa\
+y){part(\"log\").scrollBy({top:way*part(\"log\").clientHeight*0.8})}\nfunction fit(){let{height}=visualViewpor\
+t;document.documentElement.style.setProperty(\"--tall\",`${height}px`);document.body.classList.toggle(\"keyed\
+\",height<480&&innerWidth<832)}\nasync function save(){let needed=Math.max(0,...talk.proofs.map(({version})=>v\
+ersion));if(!talk.history||talk.history.version<needed){let answer=await checks.act.ask(\"@history\");if(!answ\
+er||headOf(answer)!==\"history\")return log.tell(`not saved: ${answer?.lines[0] ?? \"not connected\"}`)}let{na\
+me,text}=recordOf(talk),count=talk.proofs.length;saveFile(name,text);let how=count===1?`mud_check < ${name}`:\
+\"docs/CHECKER.md, Records, or Check a saved file in the menu\";log.tell(`saved ${name}, with ${count} ${count\
+\x20=== 1 ? \"proof\" : \"proofs\"}. To check it: ${how}`)}\nasync function checkFile(file){if(!file)return;le\
+t found=await new checker.Checker().judgeRecord(await file.text()),lines=found.map(({text,version,says})=>(ver\
+sion?`[${version}] ${says}: `:\"\")+inWords(text));log.show({kind:\"page\",lines:[`${file.name}:`,...lines]})}\
+\nfunction keep(){let settings=Object.fromEntries([\"looks\",\"checks\",\"times\"].map(id=>[id,part(id).checke\
+d])),{connectLine,name,latest,volume}=talk;keepInTab({latest,volume,world:world.kept(),layout:map.layout.kept(\
+),log:log.book.kept(),typed:line.earlier.lines,draft:part(\"line\").value,connectLine,name,settings,isOpen:par\
+t(\"map\").open})}\nfunction restore(){let{layout,log:entries=[],connectLine,name,latest,volume=1,settings={},\
+isOpen,draft=\"\"}=kept;if(layout)map.layout=Layout.from(layout);Object.assign(talk,{connectLine,name,latest,v\
+olume});for(let[id,value]of Object.entries(settings))part(id).checked=value;for(let entry of entries)log.show(\
+{...entry,isSilent:!0});if(entries.length)log.show({kind:\"page\",lines:[\"above: what this tab had before\"],\
+isSilent:!0});part(\"line\").value=draft;part(\"map\").open=isOpen??matchMedia(\"(min-width: 52.01rem)\").matc\
+hes}\nfunction listen(){on(part(\"connect\"),()=>link.connect());on(part(\"ask\"),()=>openHelp(part(\"help\"),\
+part(\"commands\")));on(part(\"save\"),save);on(part(\"save-log\"),()=>saveFile(\"log.txt\",log.book.text()));\
+on(part(\"file\"),({target})=>checkFile(target.files[0]).then(()=>(target.value=\"\")),\"change\");on(part(\"c\
+hecks\"),({target})=>(checks.isAlways=target.checked),\"change\");on(part(\"times\"),showTimes,\"change\");on(\
+part(\"guest\"),event=>{event.preventDefault();let name=typed(part(\"name\").value).trim();if(name)say(`connec\
+t ${/ /.test(name) ? `\"${name}\"` : name}`)},\"submit\");on(window,()=>link.hurry(),\"online\");on(window,kee\
+p,\"pagehide\");on(document,()=>{if(document.hidden)return keep();showUnread(0);link.hurry()},\"visibilitychan\
+ge\");on(visualViewport,fit,\"resize\");setInterval(showWait,1000)}\nfunction showTimes(){document.body.classL\
+ist.toggle(\"timed\",part(\"times\").checked)}\nrestore();\nlisten();\nchecks.isAlways=part(\"checks\").checke\
+d;\nshowTimes();\nfit();\nmap.show(world);\nlink.connect();\n</script></body></html>\n";

@@ -12,8 +12,7 @@ start_label = record { cost = 0; exits = 0 }
 abbrev pub Reaches : (ℕ → Option Label) → ℕ → Label → Type 0
 Reaches labels room l = (k : Label) × (labels room ≡ Some k) × AtMost k l
 
--- the start is labelled 0, and each step out of a labelled room leads to a label that is at most the label after the
--- step
+-- the start is labelled 0, and a step out of a labelled room leads to a label that is at most the label after it
 pub record AreValid (hop : ℕ) (roads : Roads) (from : ℕ) (labels : ℕ → Option Label) : Type 0 where
   pub start : labels from ≡ Some start_label
   pub steps : (room : ℕ) (l : Label) (s : Step) → labels room ≡ Some l → Contains (roads room) s

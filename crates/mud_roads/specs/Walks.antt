@@ -14,7 +14,6 @@ abbrev pub Walk : Roads → ℕ → List Step → ℕ → Type 0
 Walk roads from [] to = from ≡ to
 Walk roads from (s ∷ ss) to = Contains (roads from) s × Walk roads s.to ss to
 
--- the exits of a walk
 abbrev pub exits_of : List Step → List ℕ
 exits_of ss = map (λ s. s.exit) ss
 

@@ -24,8 +24,7 @@ moved_line w p actor thing to =
     else (if nat_eq to p then sentence w actor (codes " gives ") thing (codes " to you.")
     else sentence w actor (codes " gives ") thing (codes " to " ++ first_name w to ++ codes ".")))
 
--- a walk is heard in the room that the actor leaves, and otherwise in the room that the actor enters; a new player
--- appears in #0
+-- a walk is heard in the room that the actor leaves, else in the one that the actor enters; a new player is in #0
 abbrev pub heard_deed : State → ℕ → ℕ → Deed → Option (List ℕ)
 heard_deed w p actor (Say text) =
     heard_in w p (place_of w actor) (first_name w actor ++ codes " says, \"" ++ text ++ codes "\"")

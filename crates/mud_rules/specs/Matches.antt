@@ -56,8 +56,7 @@ object_number (c ∷ digits) = if nat_eq c SHARP then number_in digits else None
 
 -- ---- texts
 
--- the object that a text means: `#n`, `me`, `here`, the single candidate with that name, or the single one whose name
--- begins with it
+-- the object of a text: `#n`, `me`, `here`, the single candidate with that name, or whose name begins with it
 abbrev pub match_with : State → ℕ → List ℕ → List ℕ → Result ℕ Match
 match_with w player candidates text =
     if is_empty text then Err Nothing

@@ -25,8 +25,7 @@ outcome w own e = option_map_or Refused (lesser own (refusal w e)) (Changes e)
 abbrev pub does : State → ℕ → Option Refusal → Deed → Verdict
 does w p own deed = outcome w own (record { actor = p; deed = deed })
 
--- the deed of player p with the value that was read. If nothing was read, `own` refuses it, and `blank` takes the
--- value's place; by the law `whatever_is_read` any value would do
+-- the deed with the value read; without one `own` refuses it, and `blank` or any other would do (`whatever_is_read`)
 abbrev pub does_read : {A : Type 0} → State → ℕ → Refusal → A → Option A → (A → Deed) → Verdict
 does_read w p own blank read deed = does w p (refused_if (is_none read) own) (deed (unwrap_or read blank))
 

@@ -19,7 +19,6 @@ use Rattle.mud_world.specs.State.{State, place_of, is_number, is_thing, destinat
 
 -- ---- refusals
 
--- the reply to a refused line
 abbrev pub refusal_text : Refusal → List ℕ
 refusal_text NotUnderstood = codes "I couldn't understand that."
 refusal_text NoSuch = codes "There is no such thing."

@@ -75,7 +75,7 @@ fn add_lines(bans: &mut Bans, text: &str) -> Result<(), NoBans> {
     Ok(())
 }
 
-/// Reads the bans of a file. There are none if the file does not exist, or no file is named.
+/// Reads the bans of a file. The list is empty if the file does not exist, or if no file is named.
 pub(crate) fn read_bans<R: Files<File = File> + AllocGlobal>(
     rt: &R,
     name: Option<&str>,

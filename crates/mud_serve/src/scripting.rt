@@ -9,7 +9,7 @@ use mud_chron::{Entry, write_history};
 use mud_cli::{ChosenLimits, Scripting};
 use mud_history_file::{load, load_journal};
 use mud_io::{Sink, Source};
-use mud_session::{script, script_on};
+use mud_session::{ScriptLimits, script, script_on};
 use std::fs::{self, File};
 use std::io::{self, Eprint, Write};
 use std::rt::{Files, Runtime};
@@ -51,11 +51,21 @@ fn answer_alone<R: Runtime + AllocGlobal + Threads + Wait + Sync>(
         rt.alloc(),
         &mut source,
         &mut sink,
-        limits.capacity,
-        limits.workers,
+        script_limits(limits),
     ) {
         Ok(()) => Ok(()),
         Err(fault) => Err(Stop::of_script(fault)),
+    }
+}
+
+// Returns the limits of a script.
+fn script_limits(limits: ChosenLimits) -> ScriptLimits
+    requires { AreWithin limits }
+    ensures { result.capacity ≤ MOST_ENTRIES }
+{
+    ScriptLimits {
+        capacity: limits.capacity,
+        workers: limits.workers,
     }
 }
 
@@ -114,8 +124,7 @@ fn answer_on<R: Runtime + AllocGlobal + Files<File = File> + Threads + Wait + Sy
         rt.alloc(),
         &mut source,
         &mut sink,
-        limits.capacity,
-        limits.workers,
+        script_limits(limits),
         entries,
         word,
     ) {

@@ -20,7 +20,7 @@ use mud_chron::Entry;
 use mud_control::{Hosting, StopSign};
 use mud_hall::{HallName, NewHall};
 use mud_io::Sink;
-use mud_journal::{Disk, Found, Gate, Journal, JournalFault};
+use mud_journal::{Disk, Found, Gate, Journal, JournalFault, Nameless};
 use mud_listeners::{Doors, Listeners};
 use mud_row::History;
 use mud_server_end::{JournalWriter, ServerFault, settle_journaled, write_entries, write_ports};
@@ -180,8 +180,8 @@ fn serve_all<J: HallName + Send + Sync, D: Disk + Drop, R: Threads + Wait + Log 
     doors: Doors,
     limits: Limits,
     hosting: Hosting<'_>,
-    journal: Journal<D>,
-) -> Result<(History, Journal<D>, bool), ServerFault>
+    journal: Journal<Nameless, D>,
+) -> Result<(History, Journal<Nameless, D>, bool), ServerFault>
     requires cells { hall.cells ≡ J.cells }
     requires loaded { hall.loaded ≡ J.loaded }
     requires workers { limits.workers ≤ MOST_WORKERS }
@@ -223,8 +223,8 @@ fn serve<D: Disk + Drop, R: Threads + Wait + Log + Clock + Sync>(
     doors: Doors,
     limits: Limits,
     hosting: Hosting<'_>,
-    journal: Journal<D>,
-) -> Result<(History, Journal<D>, bool), ServerFault>
+    journal: Journal<Nameless, D>,
+) -> Result<(History, Journal<Nameless, D>, bool), ServerFault>
     requires workers { limits.workers ≤ MOST_WORKERS }
     requires capacity { limits.capacity ≤ MOST_ENTRIES }
     requires holds { Holds (D.kept journal.disk) hall.loaded }
@@ -267,7 +267,7 @@ pub fn listen_journaled<
     found: Found<D>,
     hosting: Hosting<'_>,
     out: &mut Sink<W>,
-) -> Result<Journal<D>, ServerFault>
+) -> Result<Journal<Nameless, D>, ServerFault>
     requires sessions { limits.sessions ≤ MOST_DESKS }
     requires workers { limits.workers ≤ MOST_WORKERS }
     requires from { 1 ≤ limits.capacity }

@@ -12,7 +12,7 @@ use crate::fault::ServerFault;
 use crate::writer::JournalWriter;
 use mud_chron::ChronFault;
 use mud_hall::{CloseFault, Desk, Hall, HallName};
-use mud_journal::{Disk, Journal, JournalFault};
+use mud_journal::{Disk, Journal, JournalFault, Nameless};
 use mud_row::History;
 use mud_server_state::Limits;
 use std::alloc::Global;
@@ -51,7 +51,7 @@ pub fn settle_journaled<J: HallName, D: Disk + Drop, R: Wait>(
     hall: Hall<J>,
     desks: Vec<Desk<J>>,
     writer: JournalWriter<J, D>,
-) -> Result<(History, Journal<D>), ServerFault>
+) -> Result<(History, Journal<Nameless, D>), ServerFault>
     requires few { length desks.items ≤ limits.sessions }
     requires capacity { limits.capacity ≤ MOST_ENTRIES }
     requires begun { IsPrefix J.loaded writer.entries }

@@ -6,16 +6,16 @@ ghost use Rattle.mud_hall.specs.Settlement.{IsGathered};
 ghost use Rattle.mud_journal.specs.Disk.{Holds};
 
 use mud_hall::{Desk, Hall, HallName, Reader};
-use mud_journal::{Disk, Journal, JournalFault, Receipt};
+use mud_journal::{Disk, Journal, JournalFault, Nameless, Receipt};
 use mud_world::limits::MOST_ENTRIES;
 use std::alloc::Global;
 use std::marker::Model;
 
-/// A journal, and the entries of a hall that were read for it. A prefix of them is synced: all of them, unless the
-/// journal has failed.
+/// A hall's journal, which has the hall's name, and the entries of the hall that were read for it. A prefix of them is
+/// synced: all of them, unless the journal has failed.
 #[derive(Drop)]
 pub struct JournalWriter<J: HallName, D: Disk + Drop> {
-    journal: Journal<D>,
+    journal: Journal<J, D>,
     reader: Reader<J>,
     alloc: Global,
 }
@@ -39,15 +39,19 @@ impl<J: HallName, D: Disk + Drop> Model for JournalWriter<J, D> {
 }
 
 impl<J: HallName, D: Disk + Drop> JournalWriter<J, D> {
-    /// Continues after the entries read, which the journal has.
-    pub fn new(alloc: Global, journal: Journal<D>, reader: Reader<J>) -> JournalWriter<J, D>
+    /// Gives the journal the hall's name, and continues after the entries read, which the journal has.
+    pub fn new(
+        alloc: Global,
+        journal: Journal<Nameless, D>,
+        reader: Reader<J>,
+    ) -> JournalWriter<J, D>
         requires holds { Holds (D.kept journal.disk) reader }
         requires count { journal.count ≡ length reader }
         requires going { journal.has_failed ≡ false }
         ensures { result.entries ≡ reader }
     {
         JournalWriter {
-            journal,
+            journal: journal.with_name::<J>(),
             reader,
             alloc,
         }
@@ -61,12 +65,12 @@ impl<J: HallName, D: Disk + Drop> JournalWriter<J, D> {
     }
 
     /// Returns a receipt for all synced entries.
-    pub fn receipt(&self) -> Receipt {
+    pub fn receipt(&self) -> Receipt<J> {
         self.journal.receipt()
     }
 
     /// Appends the new entries of the hall, and syncs them.
-    pub fn write(&mut self, hall: &Hall<J>) -> Result<Receipt, JournalFault>
+    pub fn write(&mut self, hall: &Hall<J>) -> Result<Receipt<J>, JournalFault>
         ensures ok { IfOk result (λ r. (r.up_to ≡ length self.new.entries) × Holds self.new.kept self.new.entries) }
         ensures longer { IsPrefix self.old.entries self.new.entries }
     {
@@ -99,10 +103,10 @@ impl<J: HallName, D: Disk + Drop> JournalWriter<J, D> {
         Ok(())
     }
 
-    /// Returns the journal.
-    pub fn into_journal(self) -> Journal<D>
+    /// Returns the journal, without its name.
+    pub fn into_journal(self) -> Journal<Nameless, D>
         ensures { D.kept result.disk ≡ self.kept }
     {
-        self.journal
+        self.journal.without_name()
     }
 }

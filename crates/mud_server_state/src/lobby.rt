@@ -1,6 +1,7 @@
 //! The lobby: browsers that have no session yet, and the tickets for sessions.
 
 use crate::limits::Limits;
+use mud_control::host_of;
 use mud_listeners::Site;
 use mud_socket::Socket;
 use std::alloc::{AllocError, Global};
@@ -187,7 +188,8 @@ impl Lobby {
         chair
     }
 
-    // Gives a browser its chair, and shuts the socket of the browser that had it.
+    // Gives a browser its chair, and shuts the socket of the browser that had it. A chair counts for the host of its
+    // address.
     fn seat<R: Wait>(
         &self,
         rt: &R,
@@ -196,6 +198,7 @@ impl Lobby {
         limits: &Limits,
     ) -> Option<u64> {
         let number = self.came.fetch_add(1, Ordering::SeqCst);
+        let address = host_of(address);
         let head = Head {
             socket,
             address,

@@ -7,7 +7,7 @@ use crate::limits::Limits;
 use crate::lobby::Lobby;
 use crate::place::{NoPlace, Place};
 use log::{Log, warn};
-use mud_control::Control;
+use mud_control::{Control, host_of};
 use mud_hall::{Desk, Fault, Hall, HallName};
 use mud_journal::Gate;
 use mud_listeners::Site;
@@ -25,17 +25,17 @@ pub struct Places<J: HallName> {
 
 /// The state that all threads of a server share.
 ///
-/// There is one instance, `StateOf` of `mud_server_threads`. The hall and the places are type parameters, because the
-/// prover finds that threads may share the state only by a lemma about its parts.
+/// There is one instance, `StateOf` of `mud_server_threads`. The hall, the places and the gate are type parameters,
+/// because the prover finds that threads may share the state only by a lemma about its parts.
 #[derive(Drop)]
-pub struct ServerState<H, P> {
+pub struct ServerState<H, P, G> {
     pub hall: H,
     places: P,
     /// The state that the server shares with the threads of its host.
     pub control: Arc<Control>,
     pub lobby: Lobby,
     pub limits: Limits,
-    pub gate: Gate,
+    pub gate: G,
     // Held while a desk is chosen; the locks of places come after it.
     choosing: Mutex<()>,
     // The number of places taken.
@@ -59,7 +59,7 @@ fn free_places<J: HallName>(alloc: Global, sessions: u32) -> Result<Places<J>, A
     Ok(Places { list })
 }
 
-impl<H, P> ServerState<H, P> {
+impl<H, P, G> ServerState<H, P, G> {
     /// Returns the number of places taken.
     pub fn session_count(&self) -> u32 {
         self.taken.load(Ordering::SeqCst)
@@ -80,6 +80,17 @@ impl<H, P> ServerState<H, P> {
         self.is_stopping.store(true, Ordering::SeqCst);
     }
 
+    /// Logs a warning, once, if the history has at least nine tenths of the changes that it can hold.
+    pub fn warn_if_nearly_full<R: Log>(&self, rt: &R, changes: usize) {
+        let most = self.limits.capacity as usize;
+        if changes < most - most / 10 || self.was_warned.swap(true, Ordering::SeqCst) {
+            return;
+        }
+        warn!(rt; "nearly-full changes={changes} most={most}");
+    }
+}
+
+impl<H, P, J> ServerState<H, P, Gate<J>> {
     /// Returns the reason why all sessions should end, if they should.
     pub fn ending<R: Wait>(&self, rt: &R) -> Option<Ending> {
         if self.gate.has_failed(rt) {
@@ -96,27 +107,18 @@ impl<H, P> ServerState<H, P> {
         let synced = self.gate.synced_count(rt) as u64;
         self.control.tally.note_synced(synced);
     }
-
-    /// Logs a warning, once, if the history has at least nine tenths of the changes that it can hold.
-    pub fn warn_if_nearly_full<R: Log>(&self, rt: &R, changes: usize) {
-        let most = self.limits.capacity as usize;
-        if changes < most - most / 10 || self.was_warned.swap(true, Ordering::SeqCst) {
-            return;
-        }
-        warn!(rt; "nearly-full changes={changes} most={most}");
-    }
 }
 
-impl<J: HallName> ServerState<Hall<J>, Places<J>> {
+impl<J: HallName> ServerState<Hall<J>, Places<J>, Gate<J>> {
     /// Returns the state of a new server, with as many free places as there may be sessions.
     pub fn new(
         alloc: Global,
         hall: Hall<J>,
         limits: Limits,
-        gate: Gate,
+        gate: Gate<J>,
         site: Option<Site>,
         control: Arc<Control>,
-    ) -> Result<ServerState<Hall<J>, Places<J>>, AllocError>
+    ) -> Result<ServerState<Hall<J>, Places<J>, Gate<J>>, AllocError>
         requires { limits.workers ≤ MOST_WORKERS }
         ensures { IfOk result (λ state. length state.places.list.items ≡ limits.sessions) }
     {
@@ -145,10 +147,11 @@ impl<J: HallName> ServerState<Hall<J>, Places<J>> {
         self.warn_if_nearly_full(rt, loaded as usize);
     }
 
-    /// Takes the free place with the lowest number for a session of this address. The session itself counts for its
-    /// address. So there are never too many sessions, but two connections racing for an address's last place may both
-    /// be refused.
+    /// Takes the free place with the lowest number for a session of this address. The session itself counts for the
+    /// host of its address. So there are never too many sessions, but two connections racing for a host's last place
+    /// may both be refused.
     pub fn take_place<R: Wait>(&self, rt: &R, address: IpAddr) -> Result<usize, NoPlace> {
+        let address = host_of(address);
         let Some(at) = self.take_free(rt, address) else {
             return Err(NoPlace::Full);
         };

@@ -7,6 +7,8 @@ use Rattle.std.proofs.thread.Scope.TheSendSync as scope
 use Rattle.mud_hall.specs.contracts.hall.Hall as Hall
 use Rattle.mud_hall.specs.declared.name.HallName as HallName
 use Rattle.mud_hall.proofs.Crosses.{hall_sync}
+use Rattle.mud_journal.specs.contracts.gate.Gate as Gate
+use Rattle.mud_journal.proofs.Crosses.{gate_sync}
 use Rattle.mud_client.proofs.Crosses.{client_send}
 use Rattle.mud_server_state.proofs.Crosses.{places_sync}
 use Rattle.mud_server_state.proofs.state.ServerState.TheSendSync as state
@@ -17,8 +19,8 @@ use Rattle.mud_server_threads.specs.contracts.server.Server as Server
 
 -- a server's state, by its parts
 pub state_sync : (J : RattleType) (h : HallName.Ghosts J.Denot) → IsSend J → IsSync J
-    → IsSync (ServerState.the_row (Hall.the_row J h) (Places.the_row J h))
-state_sync J h s y = state.the_sync _ _ (hall_sync J h s y) (places_sync J h s)
+    → IsSync (ServerState.the_row (Hall.the_row J h) (Places.the_row J h) (Gate.the_row J))
+state_sync J h s y = state.the_sync _ _ _ (hall_sync J h s y) (places_sync J h s) (gate_sync J s)
 
 pub connection_send : (J : RattleType) (h : HallName.Ghosts J.Denot) → IsSend J → IsSend (Connection.the_row J h)
 connection_send J h s = search (sendable, crosses, client_send) depth 40 fits 20000

@@ -12,7 +12,7 @@ use std::sync::{Arc, Mutex, Wait};
 use std::time::{Clock, Duration};
 
 /// The state of the hall that `J` names.
-pub type StateOf<J> = ServerState<Hall<J>, Places<J>>;
+pub type StateOf<J> = ServerState<Hall<J>, Places<J>, Gate<J>>;
 
 /// A connection: its socket, and its client during the session. Only the reader thread and the notice thread of the
 /// session take the session's lock.
@@ -155,8 +155,8 @@ impl<J: HallName> Connection<J> {
     fn send_text<R: Wait + Clock>(
         &self,
         rt: &R,
-        gate: &Gate,
-        text: Held<Sayings>,
+        gate: &Gate<J>,
+        text: Held<J, Sayings>,
     ) -> Result<(), Parting> {
         if text.is_empty() {
             return Ok(());
@@ -175,7 +175,7 @@ impl<J: HallName> Connection<J> {
         rt: &R,
         state: &StateOf<J>,
         client: &mut Option<Client<J>>,
-        outgoing: Outgoing,
+        outgoing: Outgoing<J>,
     ) -> bool {
         let Outgoing { text, end, .. } = outgoing;
         if let Some(End::Over(error)) = end {

@@ -162,7 +162,7 @@ impl<'a, J: HallName, R: Threads + Wait + Log + Clock + Sync> Reading<'a, J, R> 
 
     // Counts an answered line for the rate limits and for the host. A line end without an answer, such as the second
     // one of CR LF, keeps its token for the next line.
-    fn spend(&mut self, took: Duration, outgoing: &Outgoing) {
+    fn spend(&mut self, took: Duration, outgoing: &Outgoing<J>) {
         let (rt, tally) = (self.rt, &self.state.control.tally);
         if outgoing.has_line && outgoing.text.is_empty() {
             self.pace.give_back();
@@ -192,7 +192,7 @@ impl<'a, J: HallName, R: Threads + Wait + Log + Clock + Sync> Reading<'a, J, R> 
 
     // Announces a change of the session to the others: there are at least that many entries. With its first change it
     // counts as a player's.
-    fn tell_change(&mut self, outgoing: &Outgoing) {
+    fn tell_change(&mut self, outgoing: &Outgoing<J>) {
         let Some(version) = outgoing.accepted else {
             return;
         };
@@ -207,7 +207,7 @@ impl<'a, J: HallName, R: Threads + Wait + Log + Clock + Sync> Reading<'a, J, R> 
 
     // Finishes a step: announces its change, ends the time limit for a player once there is one, and tells the notice
     // thread when a line was answered.
-    fn tell(&mut self, outgoing: &Outgoing) {
+    fn tell(&mut self, outgoing: &Outgoing<J>) {
         self.tell_change(outgoing);
         if outgoing.has_player {
             self.has_player = true;

@@ -36,8 +36,7 @@ pub record IsFront (takes_in : TakingIn) (capacity : ℕ) (start : DeskState) (r
   pub count : ℕ
   pub writes : Appends writer.holds written.holds (take count (text_of script.play.turns))
 
--- the whole output was written, each unit had its turn, no `quit` was answered, no end was seen, and each read returned
--- a byte
+-- all output was written, each unit had its turn, no `quit` was answered, and each read returned a byte, not the end
 pub record IsOpen (takes_in : TakingIn) (capacity : ℕ) (start : DeskState) (reader read : Reader)
     (writer written : Writer) : Type 0 where
   pub script : Script takes_in capacity start reader read

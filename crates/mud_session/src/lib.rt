@@ -36,6 +36,6 @@ mod wiring;
 
 pub use door::Door;
 pub use fault::SessionFault;
-pub use scripting::{ContinueFault, ScriptFault, script, script_on};
+pub use scripting::{ContinueFault, ScriptFault, ScriptLimits, script, script_on};
 pub use seat::Seat;
 pub use session::Session;

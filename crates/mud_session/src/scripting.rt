@@ -20,6 +20,15 @@ use std::sync::Wait;
 use std::thread::Threads;
 use thiserror::Error;
 
+/// The limits of a script. The guide's answers do not depend on the number of threads.
+#[derive(Clone, Copy, Debug, PartialEq, Eq)]
+pub struct ScriptLimits {
+    /// The number of entries that the history can hold, 1 to 65,536.
+    pub capacity: u32,
+    /// The number of threads of the guide, 0 to 8.
+    pub workers: u32,
+}
+
 /// The reason why a script stopped before its end.
 #[derive(Clone, Copy, Debug, PartialEq, Eq, Error)]
 pub enum ScriptFault {
@@ -46,34 +55,31 @@ pub enum ContinueFault {
 
 const BUFFER_LEN: usize = 4096;
 
-/// Runs a session of its own over a reader and a writer, until the reader's end or an answered `quit`. The history
-/// holds at most `capacity` entries, 1 to 65,536. The end of the reader counts as one more line feed. After a fault the
-/// output is a prefix of the text for the bytes read. The guide uses `workers` threads, 0 to 8; the output does not
-/// depend on it.
+/// Runs a session of its own over a reader and a writer, until the reader's end or an answered `quit`. The end of the
+/// reader counts as one more line feed. After a fault the output is a prefix of the text for the bytes read.
 pub fn script<X: Threads + Wait + Sync, R: Read, W: Write>(
     rt: &X,
     alloc: Global,
     source: &mut Source<R>,
     sink: &mut Sink<W>,
-    capacity: u32,
-    workers: u32,
+    limits: ScriptLimits,
 ) -> Result<(), ScriptFault>
     requires fresh { source.old ≡ new_reader source.old.left }
     requires unwritten { sink.old ≡ new_writer sink.old.holds }
-    requires capacity { capacity ≤ MOST_ENTRIES }
-    ensures ok { OnOk result (IsWhole TakesNone capacity lone_desk source.old source.new sink.old sink.new) }
-    ensures fault { OnErr result (IsFront TakesNone capacity lone_desk source.old source.new sink.old sink.new) }
+    requires capacity { limits.capacity ≤ MOST_ENTRIES }
+    ensures ok { OnOk result (IsWhole TakesNone limits.capacity lone_desk source.old source.new sink.old sink.new) }
+    ensures fault { OnErr result (IsFront TakesNone limits.capacity lone_desk source.old source.new sink.old sink.new) }
     ensures reads { source.new.reads ≤ MOST_READS }
     ensures read { result ≡ Err ScriptFault.Read → source.new.has_failed ≡ true }
     ensures write { result ≡ Err ScriptFault.Write → sink.new.has_failed ≡ true }
     ensures many { result ≡ Err ScriptFault.TooManyReads → source.new.reads ≡ MOST_READS }
     ensures open { result ≡ Err ScriptFault.TooManyReads
-        → IsOpen TakesNone capacity lone_desk source.old source.new sink.old sink.new }
+        → IsOpen TakesNone limits.capacity lone_desk source.old source.new sink.old sink.new }
 {
-    let Ok(mut solo) = Solo::open(alloc, capacity) else {
+    let Ok(mut solo) = Solo::open(alloc, limits.capacity) else {
         return Err(ScriptFault::OutOfMemory);
     };
-    solo.set_workers(workers);
+    solo.set_workers(limits.workers);
     let Ok(mut session) = Session::new(alloc, false) else {
         return Err(ScriptFault::OutOfMemory);
     };
@@ -87,26 +93,25 @@ pub fn script_on<X: Threads + Wait + Sync, R: Read, W: Write>(
     alloc: Global,
     source: &mut Source<R>,
     sink: &mut Sink<W>,
-    capacity: u32,
-    workers: u32,
+    limits: ScriptLimits,
     entries: Vec<Entry>,
     word: &str,
 ) -> Result<Vec<Entry>, ContinueFault>
     requires fresh { source.old ≡ new_reader source.old.left }
     requires unwritten { sink.old ≡ new_writer sink.old.holds }
-    requires capacity { capacity ≤ MOST_ENTRIES }
-    ensures ok { IfOk result (λ history. IsContinued capacity entries.items word.now source.old source.new
+    requires capacity { limits.capacity ≤ MOST_ENTRIES }
+    ensures ok { IfOk result (λ history. IsContinued limits.capacity entries.items word.now source.old source.new
         sink.old sink.new history.items) }
     ensures few { IfOk result (λ history. length history.items ≤ MOST_ENTRIES) }
-    ensures fault { IfErr result (HasNoHistory capacity entries.items word.now source.old source.new
+    ensures fault { IfErr result (HasNoHistory limits.capacity entries.items word.now source.old source.new
         sink.old sink.new) }
     ensures reads { source.new.reads ≤ MOST_READS }
 {
-    let mut solo = match Solo::resume(alloc, capacity, entries, word) {
+    let mut solo = match Solo::resume(alloc, limits.capacity, entries, word) {
         Ok(solo) => solo,
         Err(fault) => return Err(ContinueFault::NotResumed(fault)),
     };
-    solo.set_workers(workers);
+    solo.set_workers(limits.workers);
     let Ok(mut session) = Session::new(alloc, false) else {
         return Err(ContinueFault::Stopped(ScriptFault::OutOfMemory));
     };

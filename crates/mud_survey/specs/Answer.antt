@@ -27,7 +27,7 @@ use Rattle.mud_survey.specs.Table.{table_text}
 use Rattle.mud_survey.specs.Json.{json_text}
 
 -- the bytes hold legal entries; this is their number, and this their world
-pub record KeepsWorld (kind : TextKind) (bytes : List ℕ) (torn : Option ℕ) (version : ℕ) (w : State) : Type 0 where
+pub record KeepsVersion (kind : TextKind) (bytes : List ℕ) (torn : Option ℕ) (version : ℕ) (w : State) : Type 0 where
   pub entries : List Entry
   pub kept : KeepsEntries kind bytes entries torn
   pub legal : AreLegal (changes_of entries)
@@ -67,7 +67,7 @@ pub record IsSurveyText (kind : TextKind) (form : Form) (bytes : List ℕ) (word
     (torn : Option ℕ) : Type 0 where
   pub version : ℕ
   pub world : State
-  pub keeps : KeepsWorld kind bytes torn version world
+  pub keeps : KeepsVersion kind bytes torn version world
   pub players : List ℕ
   pub party : IsParty world words players
   pub survey : Survey
@@ -87,7 +87,7 @@ pub record IsProofText (w : State) (version player room : ℕ) (text : List ℕ)
 pub record IsWayProof (kind : TextKind) (bytes player room text : List ℕ) (torn : Option ℕ) : Type 0 where
   pub version : ℕ
   pub world : State
-  pub keeps : KeepsWorld kind bytes torn version world
+  pub keeps : KeepsVersion kind bytes torn version world
   pub who : ℕ
   pub who_is : MeansPlayer world player who
   pub to : ℕ
@@ -98,7 +98,7 @@ pub record IsWayProof (kind : TextKind) (bytes player room text : List ℕ) (tor
 abbrev pub HasNoSurvey : TextKind → List ℕ → List (List ℕ) → List (List ℕ) → NoSurvey → Type 0
 HasNoSurvey kind bytes words rooms (faults.History fault) = KeepsNoWorld kind bytes fault
 HasNoSurvey kind bytes words rooms (faults.NoPlayer place) =
-    (version : ℕ) × (w : State) × (torn : Option ℕ) × KeepsWorld kind bytes torn version w × MeansNobody w words place
+    (version : ℕ) × (w : State) × (torn : Option ℕ) × KeepsVersion kind bytes torn version w × MeansNobody w words place
 HasNoSurvey kind bytes words rooms faults.NoRoom =
-    (version : ℕ) × (w : State) × (torn : Option ℕ) × KeepsWorld kind bytes torn version w
+    (version : ℕ) × (w : State) × (torn : Option ℕ) × KeepsVersion kind bytes torn version w
     × Any (λ word. (room : ℕ) → MeansRoom w word room → ⊥) rooms

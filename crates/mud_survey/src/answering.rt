@@ -4,7 +4,7 @@ ghost use Rattle.std.specs.Prelude.{◌≡◌, ◌≤◌, ◌∷◌, [], map, If
 ghost use Rattle.mud_world.specs.declared.limits.TheConstants.{MOST_ENTRIES};
 ghost use Rattle.mud_world.specs.State.{is_player, is_room};
 ghost use Rattle.mud_survey.specs.Answer.{IsProofText, IsWayProof, HasNoSurvey};
-ghost use Rattle.mud_survey.specs.Answer.{KeepsWorld, survey_text, IsSurveyText};
+ghost use Rattle.mud_survey.specs.Answer.{KeepsVersion, survey_text, IsSurveyText};
 
 use crate::finding::survey_world;
 use crate::json::json_text;
@@ -69,7 +69,7 @@ struct Found {
 
 // Returns the world of the bytes.
 fn found_in(alloc: Global, kind: TextKind, bytes: &[u8]) -> Result<Found, NoSurvey>
-    ensures ok { IfOk result (λ f. KeepsWorld kind bytes.now f.torn f.version f.world) }
+    ensures ok { IfOk result (λ f. KeepsVersion kind bytes.now f.torn f.version f.world) }
     ensures few { IfOk result (λ f. f.version ≤ MOST_ENTRIES) }
     ensures err { IfErr result (HasNoSurvey kind bytes.now [] []) }
 {

@@ -3,8 +3,8 @@
 //! | Calls | Result |
 //! |---|---|
 //! | `survey_world` | what is found in a world for some of its players |
-//! | `survey_of` | the same from the bytes of a history or a journal, as a table or in JSON |
-//! | `way_proof` | the certificate of a player's way to a room, or that there is none |
+//! | `survey_of` | a survey of the bytes of a history or a journal, as a table or in JSON |
+//! | `way_proof` | the certificate of a player's way to a room, or that no way exists |
 //!
 //! Proved is that each list has exactly what its definition says, each once and in order, that the texts are those of
 //! the definitions, and that the certificate is valid.

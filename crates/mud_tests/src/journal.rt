@@ -10,7 +10,9 @@ use log::Log;
 use mud_chron::limits::MOST_DESKS;
 use mud_chron::{ChronFault, Entry, read_front};
 use mud_io::Sink;
-use mud_journal::{Appends, Disk, DiskFault, Found, Journal, JournalFault, OpenFault, recover};
+use mud_journal::{
+    Appends, Disk, DiskFault, Found, Journal, JournalFault, Nameless, OpenFault, recover,
+};
 use mud_server::{Doors, Hosting, Limits, ServerFault, listen_journaled};
 use std::alloc::{AllocError, Global};
 use std::io::Write;
@@ -108,7 +110,7 @@ impl Disk for MemoryDisk<'_> {
 fn commit(
     rt: &impl Abort,
     alloc: Global,
-    journal: &mut Journal<MemoryDisk<'_>>,
+    journal: &mut Journal<Nameless, MemoryDisk<'_>>,
     entries: &[Entry],
 ) {
     for batch in entries.chunks(2) {

@@ -7,7 +7,7 @@ use crate::lines::{act, act_alone};
 use crate::rows::{push_sent, push_text, same, split_word};
 use mud_hall::{Desk, Fault, Hall, HallName, NewHall, Reply, Solo};
 use mud_io::{Sink, Source};
-use mud_session::{Seat, Session, SessionFault, script};
+use mud_session::{ScriptLimits, Seat, Session, SessionFault, script};
 use mud_words::parse;
 use std::alloc::{AllocError, Global};
 use std::marker::Brand;
@@ -331,8 +331,10 @@ fn script_text<R: Threads + Wait + AllocGlobal + Sync>(
         alloc,
         &mut Source::new(LINES),
         &mut Sink::new(&mut bytes),
-        16,
-        0,
+        ScriptLimits {
+            capacity: 16,
+            workers: 0,
+        },
     )?;
     let mut text = String::new(alloc);
     push_sent(alloc, &bytes, &mut text)?;

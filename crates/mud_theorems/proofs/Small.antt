@@ -28,10 +28,9 @@ use Rattle.mud_web.specs.Sending.{frame_of, frames_of}
 use Rattle.mud_web.proofs.Sending.{messages_more}
 use Rattle.mud_client.specs.declared.framing.Framing.{Framing}
 use Rattle.mud_client.specs.declared.framing.Framing.TheVariants.{Telnet, Web}
-use Rattle.mud_client.specs.declared.outgoing.Outgoing.{Outgoing}
 use Rattle.mud_client.specs.Framed.{Leaving, Frames}
 use Rattle.mud_client.specs.Client.{ClientState, Stands}
-use Rattle.mud_client.specs.Steps.{FeedsLine, Says, Steps, Looks as LooksUp}
+use Rattle.mud_client.specs.Steps.{Output, FeedsLine, Says, Steps, Looks as LooksUp}
 use Rattle.mud_theorems.specs.Sizes.{IsSmall}
 use Rattle.mud_theorems.specs.Laws.{SessionsAreSmall}
 
@@ -165,7 +164,7 @@ begun_small client s =
       out = inr (greeted client.capacity client.session client.desk talk);
     }
 
-look_small : (came sent : List ℕ) (old new : ClientState) (out : Outgoing) → Stands came sent old
+look_small : (came sent : List ℕ) (old new : ClientState) (out : Output) → Stands came sent old
     → LooksUp old new out → IsSmall new.session
 look_small came sent old new out s (looked, look, says) =
     let same : new.session.terminal ≡ old.session.terminal =
@@ -176,7 +175,7 @@ look_small came sent old new out s (looked, look, says) =
       out = inl (ap (λ (c : ClientState). c.session.out) says.same);
     }
 
-line_small : (typed : List ℕ) (line : Bool) (old fed new : ClientState) (out : Outgoing)
+line_small : (typed : List ℕ) (line : Bool) (old fed new : ClientState) (out : Output)
     → StandsAfter old.session.terminal typed → FeedsLine old fed → Says line fed new out → IsSmall new.session
 line_small typed line old fed new out stands feeds says = record {
   line = subst (λ (h : Held). length h.text ≤ MOST) (sym (ap (λ (c : ClientState). c.session.terminal) says.same))
@@ -184,7 +183,7 @@ line_small typed line old fed new out stands feeds says = record {
   out = inl (ap (λ (c : ClientState). c.session.out) says.same);
 }
 
-step_small : (came sent bytes : List ℕ) (old new : ClientState) (out : Outgoing) → Stands came sent old
+step_small : (came sent bytes : List ℕ) (old new : ClientState) (out : Output) → Stands came sent old
     → IsSmall old.session → Steps bytes old new out → IsSmall new.session
 step_small came sent bytes old new out s small step =
     let same : step.mid.session ≡ old.session = ap (λ (c : ClientState). c.session) step.comes.same in

@@ -28,9 +28,8 @@ use Rattle.mud_session.specs.Session.{text_of}
 use Rattle.mud_session.specs.Talks.{greeting}
 use Rattle.mud_web.specs.Channel.{Standing}
 use Rattle.mud_client.specs.declared.framing.Framing.TheVariants.{Web}
-use Rattle.mud_client.specs.declared.outgoing.Outgoing.{Outgoing}
 use Rattle.mud_client.specs.Client.{ClientState, Stands}
-use Rattle.mud_client.specs.Steps.{Steps, Looks}
+use Rattle.mud_client.specs.Steps.{Output, Steps, Looks}
 use Rattle.mud_theorems.specs.Runs.{Work, IsWork, AreOneRun}
 use Rattle.mud_theorems.specs.Owning.{moves, IsMoved}
 use Rattle.mud_theorems.specs.Survival.{IsCrashOf, IsBack, WasCalled, StillHolds}
@@ -101,5 +100,5 @@ BrowsersTypeLines =
 abbrev pub SessionsAreSmall : Type 0
 SessionsAreSmall =
     ((client : ClientState) → Stands [] [] client → IsSmall client.session)
-    × ((came sent bytes : List ℕ) (old new : ClientState) (out : Outgoing) → Stands came sent old → IsSmall old.session
+    × ((came sent bytes : List ℕ) (old new : ClientState) (out : Output) → Stands came sent old → IsSmall old.session
     → (Steps bytes old new out → IsSmall new.session) × (Looks old new out → IsSmall new.session))

@@ -8,12 +8,12 @@ use Rattle.mud_chron.specs.declared.fault.ChronFault.TheVariants.{OutOfMemory}
 use Rattle.mud_compact.specs.declared.reading.TextKind.{TextKind}
 use Rattle.mud_compact.specs.declared.reading.TextKind.TheVariants.{History, Journal}
 use Rattle.mud_compact.specs.declared.fault.KeptFault.TheVariants.{Text}
-use Rattle.mud_compact.specs.Answer.{KeepsNoWorld}
+use Rattle.mud_compact.specs.Answer.{KeepsLegal, KeepsNoWorld}
 use Rattle.mud_undo.specs.declared.choice.Choice.{Choice}
 use Rattle.mud_undo.specs.declared.choice.Choice.TheVariants.{Versions, Since}
 use Rattle.mud_undo.specs.declared.answering.NoUndo.{NoUndo}
 use Rattle.mud_undo.specs.declared.answering.NoUndo.TheVariants as faults
-use Rattle.mud_undo.specs.Answer.{MeansVersions, MeansPlayer, MeansSince, KeepsLegal, IsNoUndo, HasNoUndo}
+use Rattle.mud_undo.specs.Answer.{MeansVersions, MeansPlayer, MeansSince, IsNoUndo, HasNoUndo}
 
 out_of_memory : (kind : TextKind) (bytes : List ℕ) → KeepsNoWorld kind bytes (Text OutOfMemory)
 out_of_memory History bytes = inl (λ other. absurd (other refl))

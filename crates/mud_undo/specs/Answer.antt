@@ -7,12 +7,11 @@ use Rattle.mud_chron.specs.declared.fault.ChronFault.TheVariants.{OutOfMemory}
 use Rattle.mud_chron.specs.declared.format.Format.TheVariants.{Two}
 use Rattle.mud_chron.specs.Entry.{Entry}
 use Rattle.mud_chron.specs.Text.{history_text}
-use Rattle.mud_chron.specs.Replay.{changes_of, AreLegal}
+use Rattle.mud_chron.specs.Replay.{changes_of}
 use Rattle.mud_rules.specs.Matches.{match_among}
 use Rattle.mud_compact.specs.declared.reading.TextKind.{TextKind}
 use Rattle.mud_compact.specs.declared.fault.KeptFault.TheVariants.{Text}
-use Rattle.mud_compact.specs.Recovery.{KeepsEntries}
-use Rattle.mud_compact.specs.Answer.{KeepsNoWorld}
+use Rattle.mud_compact.specs.Answer.{KeepsLegal, KeepsNoWorld}
 use Rattle.mud_diff.specs.Answer.{IsDiffText}
 use Rattle.mud_undo.specs.declared.choice.Choice.{Choice}
 use Rattle.mud_undo.specs.declared.choice.Choice.TheVariants.{Versions, Since}
@@ -39,11 +38,6 @@ MeansSince first (Some word) entries choice =
     (p : ℕ) × MeansPlayer (world_of (changes_of entries)) word p × (choice ≡ Since first (Some p))
 
 -- ---- answers
-
--- the bytes keep these entries, and all of them are legal
-pub record KeepsLegal (kind : TextKind) (bytes : List ℕ) (torn : Option ℕ) (entries : List Entry) : Type 0 where
-  pub kept : KeepsEntries kind bytes entries torn
-  pub legal : AreLegal (changes_of entries)
 
 -- the text is the history without what is chosen, and it is told in what its world differs from the old one
 pub record IsUndoneText (choice : Choice) (entries : List Entry) (text told : List ℕ) (before after : ℕ) : Type 0 where

@@ -5,9 +5,9 @@ ghost use Rattle.std.specs.Prelude.{IfErr, string_bytes};
 ghost use Rattle.mud_world.specs.declared.limits.TheConstants.{MOST_ENTRIES};
 ghost use Rattle.mud_world.specs.History.{world_of};
 ghost use Rattle.mud_chron.specs.Replay.{changes_of, AreLegal};
-ghost use Rattle.mud_compact.specs.Answer.{KeepsNoWorld};
+ghost use Rattle.mud_compact.specs.Answer.{KeepsLegal, KeepsNoWorld};
 ghost use Rattle.mud_diff.specs.Answer.{IsDiffText};
-ghost use Rattle.mud_undo.specs.Answer.{MeansVersions, MeansPlayer, MeansSince, KeepsLegal, IsUndoneText};
+ghost use Rattle.mud_undo.specs.Answer.{MeansVersions, MeansPlayer, MeansSince, IsUndoneText};
 ghost use Rattle.mud_undo.specs.Answer.{IsUndoneOf, IsNoUndo, HasNoUndo};
 
 use crate::choice::Choice;

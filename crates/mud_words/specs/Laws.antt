@@ -19,7 +19,6 @@ in_quotes word = QUOTE ∷ (flat_map (λ b. if is_mark b then BACKSLASH ∷ b �
 abbrev pub QuotedWordsReadBack : Type 0
 QuotedWordsReadBack = (ws : List (List ℕ)) → plain_words (join_with_byte SPACE (map in_quotes ws)) ≡ ws
 
--- the list is empty
 abbrev pub is_empty : {A : Type 0} → List A → Bool
 is_empty [] = true
 is_empty (x ∷ xs) = false

@@ -8,8 +8,7 @@ use Rattle.mud_words.specs.Line.{Line}
 use Rattle.std.specs.Str.{str_to_ascii_lowercase as lower}
 use Rattle.mud_words.specs.Prepositions.{Found, preposition_of}
 
--- the objects around a preposition: the words before it are direct, and those after it indirect; without one all are
--- direct
+-- the words before a preposition are direct, and those after it indirect; without a preposition all are direct
 abbrev pub round : List ℕ → List (List ℕ) → List ℕ → Option Found → Line
 round verb args rest found = record {
   verb = verb;

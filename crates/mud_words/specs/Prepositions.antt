@@ -71,8 +71,7 @@ or_later (Some phrase) later = Some (record { place = 0; phrase = phrase })
 or_later None None = None
 or_later None (Some f) = Some (record f { place = f.place + 1 })
 
--- the preposition that counts. A reader need not look into this: the law `laws::preposition` says that it is the one of
--- `Counts`
+-- the preposition that counts. A reader need not look into this: by the law `laws::preposition` it is that of `Counts`
 unfoldable pub preposition_of : List (List ℕ) → Option Found
 preposition_of [] = None
 preposition_of (w ∷ ws) = or_later (phrase_at (w ∷ ws)) (preposition_of ws)

@@ -5,8 +5,7 @@ use Rattle.std.specs.List.{slice_split, list_all, position_or_len}
 use Rattle.mud_words.specs.declared.codes.TheConstants.{SPACE, QUOTE, COLON, SEMICOLON}
 use Rattle.mud_words.specs.inner.Pieces.{pieces, is_gap, texts_of}
 
--- the words of a line without shorthand. A reader need not look into this: the law `laws::grammar` says that they are
--- those of the grammar
+-- the words of a line without shorthand. A reader need not look into this: the law `laws::grammar` gives them
 abbrev pub plain_words : List ℕ → List (List ℕ)
 plain_words line = texts_of (slice_split is_gap (pieces line))
 

@@ -4,7 +4,6 @@ use Rattle.mud_world.specs.declared.record.Passage.{Passage}
 use Rattle.mud_world.specs.declared.record.Kind.{Kind}
 use Rattle.mud_world.specs.declared.record.Kind.TheVariants.{Room, Exit, Thing, Player}
 
--- a room
 abbrev pub is_room_kind : Kind → Bool
 is_room_kind Room = true
 is_room_kind other = false
@@ -14,12 +13,10 @@ abbrev pub is_exit_kind : Kind → Bool
 is_exit_kind (Exit p) = true
 is_exit_kind other = false
 
--- a thing
 abbrev pub is_thing_kind : Kind → Bool
 is_thing_kind (Thing place) = true
 is_thing_kind other = false
 
--- a player
 abbrev pub is_player_kind : Kind → Bool
 is_player_kind (Player place) = true
 is_player_kind other = false

@@ -88,7 +88,6 @@ is_arrival deed = false
 abbrev pub fails : State → Change → Refusal → Bool
 fails w e f = (not (is_arrival e.deed) && actor_fails w e.actor f) || deed_fails w e.actor e.deed f
 
--- the least refusal whose condition holds, if any. A reader need not look into this: the law `laws::refusals`
--- characterizes it
+-- the least refusal whose condition holds. A reader need not look into this: the law `laws::refusals` characterizes it
 unfoldable pub refusal : State → Change → Option Refusal
 refusal w e = find (fails w e) refusals

@@ -6,7 +6,6 @@ use Rattle.mud_world.specs.declared.refusal.Refusal.TheVariants.{Denied, BadName
 use Rattle.mud_world.specs.declared.refusal.Refusal.TheVariants.{BadCost, RecursiveMove, LockedExit, LockedRoom}
 use Rattle.mud_world.specs.declared.refusal.Refusal.TheVariants.{LockedThing, InUse, WorldFull, PartyBad}
 
--- the number of a refusal
 abbrev pub number : Refusal → ℕ
 number NotUnderstood = 1
 number NoSuch = 2

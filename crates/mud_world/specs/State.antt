@@ -25,7 +25,6 @@ pub record State : Type 0 where
 abbrev pub record_at : State → ℕ → Option Record
 record_at w n = lookup (nat_eq n) w.objects
 
--- object n exists
 abbrev pub exists : State → ℕ → Bool
 exists w n = is_some (record_at w n)
 
@@ -63,8 +62,7 @@ is_number n o = option_map_or (nat_eq n) o false
 abbrev pub numbers_with : (Record → Bool) → State → List ℕ
 numbers_with test w = map (λ e. e.0) (filter (λ e. test e.1) w.objects)
 
--- the objects whose place is n. A reader need not look into this: the law `laws::contents` characterizes it in sound
--- worlds
+-- the objects in n. A reader need not look into this: in sound worlds the law `laws::contents` characterizes it
 abbrev pub contents_of : State → ℕ → List ℕ
 contents_of w n = numbers_with (λ r. is_number n (kind_place r.kind)) w
 
@@ -82,8 +80,7 @@ abbrev pub comes_to : State → ℕ → ℕ → ℕ → Bool
 comes_to w zero o c = false
 comes_to w (suc n) o c = nat_eq o c || option_map_or (λ p. comes_to w n p c) (place_of w o) false
 
--- `Within` as a test. A reader need not look into this: the law `laws::containment` says that they agree in sound
--- worlds
+-- `Within` as a test. A reader need not look into this: in sound worlds they agree, by the law `laws::containment`
 abbrev pub within : State → ℕ → ℕ → Bool
 within w o c = exists w o && comes_to w w.next o c
 
@@ -105,8 +102,7 @@ source_of w n = option_map (λ p. p.source) (passage_of w n)
 abbrev pub destination_of : State → ℕ → Option ℕ
 destination_of w n = option_map (λ p. p.destination) (passage_of w n)
 
--- the exits whose source is n. A reader need not look into this: the law `laws::leaving` characterizes it in sound
--- worlds
+-- the exits out of n. A reader need not look into this: in sound worlds the law `laws::leaving` characterizes it
 abbrev pub leaving_of : State → ℕ → List ℕ
 leaving_of w n = numbers_with (λ r. is_number n (option_map (λ p. p.source) (kind_passage r.kind))) w
 

@@ -9,11 +9,11 @@ use Rattle.mud_session.proofs.scripting.script.Goals as goal
 
 pub returns-in_default-clause-fault : goal.returns-in_default-clause-fault
 returns-in_default-clause-fault g c =
-    front_at_start TakesNone c.args.capacity lone_desk c.args.source.now c.args.sink.now c.requires.fresh
+    front_at_start TakesNone c.args.limits.capacity lone_desk c.args.source.now c.args.sink.now c.requires.fresh
 
 pub returns-in_default-new-clause-fault : goal.returns-in_default-new-clause-fault
 returns-in_default-new-clause-fault g c =
-    front_at_start TakesNone c.args.capacity lone_desk c.args.source.now c.args.sink.now c.requires.fresh
+    front_at_start TakesNone c.args.limits.capacity lone_desk c.args.source.now c.args.sink.now c.requires.fresh
 
 pub returns-clause-ok : goal.returns-clause-ok
 returns-clause-ok g c =

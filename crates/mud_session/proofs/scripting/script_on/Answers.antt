@@ -11,7 +11,7 @@ pub returns-in_default-clause-fault : goal.returns-in_default-clause-fault
 returns-in_default-clause-fault g c = record {
   start = c.in-Ok.solo;
   resumed = c.in-Ok.ensures.ok;
-  front = front_at_start TakesNone c.args.capacity c.in-Ok.solo.state c.args.source.now c.args.sink.now
+  front = front_at_start TakesNone c.args.limits.capacity c.in-Ok.solo.state c.args.source.now c.args.sink.now
       c.requires.fresh;
   reader_failed = λ e. absurd (cc);
   writer_failed = λ e. absurd (cc);
@@ -21,7 +21,7 @@ returns-in_default-clause-fault g c = record {
 pub returns-in-Ok-converse-clause-ok : goal.returns-in-Ok-converse-clause-ok
 returns-in-Ok-converse-clause-ok g c =
     let solo = c.set_workers.new.self in
-    let resumed = subst (IsResumed c.args.capacity c.args.entries.items c.args.word.now)
+    let resumed = subst (IsResumed c.args.limits.capacity c.args.entries.items c.args.word.now)
     (sym c.set_workers.ensures) c.in-Ok.ensures.ok in
     let whole = subst (λ (n : ℕ). IsWholeAt TakesNone n solo.state c.args.source.now c.converse.new.source
     c.args.sink.now c.converse.new.sink c.converse.new.door.state)
@@ -38,7 +38,7 @@ returns-in-Err-converse-clause-fault g c =
     let solo = c.set_workers.new.self in
     let source = c.converse.new.source in
     let sink = c.converse.new.sink in
-    let resumed = subst (IsResumed c.args.capacity c.args.entries.items c.args.word.now)
+    let resumed = subst (IsResumed c.args.limits.capacity c.args.entries.items c.args.word.now)
     (sym c.set_workers.ensures) c.in-Ok.ensures.ok in
     let same = ap (λ (a : Alone). a.capacity) resumed.is in
     record {

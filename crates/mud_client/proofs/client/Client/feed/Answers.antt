@@ -5,7 +5,7 @@ use Rattle.mud_client.specs.declared.client.Client.TheInside.{Inside}
 use Rattle.mud_client.specs.declared.framing.Framing.{Framing}
 use Rattle.mud_client.specs.declared.outgoing.End.{End}
 use Rattle.mud_client.specs.Client.{ClientState, state_of, IsSound}
-use Rattle.mud_client.specs.Steps.{MatchEnd, Steps, CutsOff}
+use Rattle.mud_client.specs.Steps.{MatchEnd, output_of, Steps, CutsOff}
 use Rattle.mud_client.proofs.Feeding.{none_waits, some_wait}
 use Rattle.mud_client.proofs.Leaving.{replies_read}
 use Rattle.mud_client.proofs.Stepping.{comes_sound, broken_replies, cut_so, match_end}
@@ -43,10 +43,10 @@ returns-in-Err-clause-step g c =
     let cut : ClientState =
     record (mid g inside c.read-read.new.self c.read-read.new.typed.items) { has_ended = true } in
     let new = c.cut_off.result.0 in
-    let out = c.cut_off.result.1 in
+    let out = output_of c.cut_off.result.1 in
     let bytes = c.args.bytes.now in
     subst (λ (x : ClientState). MatchEnd out.end (Steps bytes x new out) (λ e. CutsOff bytes e x new out)
-    (out.text.text.items ≡ [])) c.client.view_is
+    (out.text ≡ [])) c.client.view_is
     (match_end out.end (λ done. absurd done)
     (λ e is over. cut_so bytes c.read-read.new.replies.items c.in-Err.fault e (before g inside) cut new out refl
     c.in-Err.ensures.over over.0 over.1 over.2) (λ none. none) c.cut_off.ensures.over)
@@ -77,13 +77,13 @@ new-requires g c =
           s.stands.frames)));
     }
 
-replied : (g : Over) (c : After-give g) → Steps c.args.bytes.now c.args.self c.give.result.0 c.give.result.1
+replied : (g : Over) (c : After-give g) → Steps c.args.bytes.now c.args.self c.give.result.0 (output_of c.give.result.1)
 replied g c =
     let inside = c.client.inside in
     let replies = c.read-read.new.replies in
-    subst (λ (x : ClientState). Steps c.args.bytes.now x c.give.result.0 c.give.result.1) c.client.view_is
+    subst (λ (x : ClientState). Steps c.args.bytes.now x c.give.result.0 (output_of c.give.result.1)) c.client.view_is
     (frames_step c.args.bytes.now replies.items (before g inside)
-    (mid g inside c.read-read.new.self c.read-read.new.typed.items) c.give.result.0 c.give.result.1
+    (mid g inside c.read-read.new.self c.read-read.new.typed.items) c.give.result.0 (output_of c.give.result.1)
     (record { reads = c.in_default.ensures.ok; same = refl })
     (some_wait replies.items _ replies.ok.0 c.if-not-is_empty.ensures) c.if-client.false c.give.ensures.client
     (ap (λ h. h.text.items) c.give.ensures.text ∙ ap (λ v. v.items) c.new.ensures.text)
@@ -92,20 +92,20 @@ replied g c =
 pub returns-then-not-is_empty-clause-step : goal.returns-then-not-is_empty-clause-step
 returns-then-not-is_empty-clause-step g c =
     let new = c.give.result.0 in
-    let out = c.give.result.1 in
+    let out = output_of c.give.result.1 in
     let bytes = c.args.bytes.now in
     subst (λ (e : Option End). MatchEnd e (Steps bytes c.args.self new out) (λ e. CutsOff bytes e c.args.self new out)
-    (out.text.text.items ≡ [])) (sym c.give.ensures.end)
+    (out.text ≡ [])) (sym c.give.ensures.end)
     (replied g (goal.at.returns-then-not-is_empty-clause-step g c).After-give)
 
 pub returns-then-not-is_empty-clause-stands : goal.returns-then-not-is_empty-clause-stands
 returns-then-not-is_empty-clause-stands g c came sent s =
     let new = c.give.result.0 in
-    let out = c.give.result.1 in
+    let out = output_of c.give.result.1 in
     let bytes = c.args.bytes.now in
     step_stands bytes came sent c.args.self new out
     (subst (λ (e : Option End). MatchEnd e (Steps bytes c.args.self new out)
-    (λ e. CutsOff bytes e c.args.self new out) (out.text.text.items ≡ [])) (sym c.give.ensures.end)
+    (λ e. CutsOff bytes e c.args.self new out) (out.text ≡ [])) (sym c.give.ensures.end)
     (replied g (goal.at.returns-then-not-is_empty-clause-stands g c).After-give)) s
 
 -- the first waiting line is fed
@@ -114,17 +114,17 @@ pub say-requires : goal.say-requires
 say-requires g c = c.in-Ok.ensures.names c.if-client.false
 
 said : (g : Over) (c : After-say g)
-    → MatchEnd c.say.result.1.end (Steps c.args.bytes.now c.args.self c.say.result.0 c.say.result.1)
-    (λ e. CutsOff c.args.bytes.now e c.args.self c.say.result.0 c.say.result.1)
+    → MatchEnd c.say.result.1.end (Steps c.args.bytes.now c.args.self c.say.result.0 (output_of c.say.result.1))
+    (λ e. CutsOff c.args.bytes.now e c.args.self c.say.result.0 (output_of c.say.result.1))
     (c.say.result.1.text.text.items ≡ [])
 said g c =
     let inside = c.client.inside in
     let replies = c.read-read.new.replies in
     let bytes = c.args.bytes.now in
     let new = c.say.result.0 in
-    let out = c.say.result.1 in
+    let out = output_of c.say.result.1 in
     subst (λ (x : ClientState). MatchEnd out.end (Steps bytes x new out) (λ e. CutsOff bytes e x new out)
-    (out.text.text.items ≡ [])) c.client.view_is
+    (out.text ≡ [])) c.client.view_is
     (line_step bytes replies.items c.in-Ok.has_line (before g inside)
     (mid g inside c.read-read.new.self c.read-read.new.typed.items) c.in-Ok.client new out
     (record { reads = c.in_default.ensures.ok; same = refl })
@@ -136,5 +136,5 @@ returns-in-Ok-clause-step g c = said g (goal.at.returns-in-Ok-clause-step g c).A
 
 pub returns-in-Ok-clause-stands : goal.returns-in-Ok-clause-stands
 returns-in-Ok-clause-stands g c came sent s =
-    step_stands c.args.bytes.now came sent c.args.self c.say.result.0 c.say.result.1
+    step_stands c.args.bytes.now came sent c.args.self c.say.result.0 (output_of c.say.result.1)
     (said g (goal.at.returns-in-Ok-clause-stands g c).After-say) s

@@ -6,7 +6,7 @@ use Rattle.mud_client.specs.declared.outgoing.End.{End}
 use Rattle.mud_client.specs.declared.outgoing.End.TheVariants.{Quit}
 use Rattle.mud_client.specs.Framed.{framed}
 use Rattle.mud_client.specs.Client.{ClientState, state_of}
-use Rattle.mud_client.specs.Steps.{Says}
+use Rattle.mud_client.specs.Steps.{output_of, Says}
 use Rattle.mud_client.proofs.Leaving.{said_names}
 use Rattle.mud_client.proofs.Stepping.{silent_kept, says_so, said_end}
 use Rattle.mud_client.proofs.client.Client.say.Goals as goal
@@ -51,7 +51,7 @@ returns-after-client-clause-says g c =
     let old : ClientState =
     state_of (length g.J.HallName.cells) inside.framing inside.waiting.items inside.session inside.desk.state
     inside.has_ended in
-    let out = c.give.result.1 in
+    let out = output_of c.give.result.1 in
     let which : (c.if-client.end ≡ Some Quit) ⊎ (c.if-client.end ≡ None) =
     elim c.if-client.branch [
       | then-client w ↦ inl w.end-is
@@ -62,12 +62,12 @@ returns-after-client-clause-says g c =
       | then-client w ↦ ap (λ (e : Option End). is_some e) w.end-is ∙ sym w.if-client.true
       | else-client w ↦ ap (λ (e : Option End). is_some e) w.end-is ∙ sym w.if-client.false
     ] in
-    let gives : out.text.text.items ≡ framed inside.framing inside.session.out =
+    let gives : out.text ≡ framed inside.framing inside.session.out =
     ap (λ h. h.text.items) c.give.ensures.text ∙ ap (λ v. v.items) c.new-text.ensures.text ∙ c.in-Ok.ensures.text
     ∙ ap (framed inside.framing) c.take_out-said.ensures.text in
-    let version : out.text.version ≡ length inside.desk.state.seen =
+    let version : out.version ≡ length inside.desk.state.seen =
     ap (λ h. h.version) c.give.ensures.text ∙ c.new-text.ensures.version ∙ c.seen.ensures.seen in
-    said_end (Says c.args.has_line c.args.self c.give.result.0 out) (out.text.text.items ≡ []) (λ e. ⊥) c.if-client.end
+    said_end (Says c.args.has_line c.args.self c.give.result.0 out) (out.text ≡ []) (λ e. ⊥) c.if-client.end
     out.end c.give.ensures.end which
     (subst (λ (x : ClientState). Says c.args.has_line x c.give.result.0 out) c.client.view_is
     (says_so c.args.has_line c.if-client.end old c.frame.new.self c.take_out-said.new.self c.give.result.0 out

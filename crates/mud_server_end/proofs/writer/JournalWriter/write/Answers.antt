@@ -30,7 +30,7 @@ returns-in-Ok-clause-ok g c =
     let j = c.self.inside.journal in
     let es : List Entry = c.self.inside.reader in
     let going : j.has_failed ≡ false = sym c.has_failed.ensures ∙ c.if-has_failed.false in
-    receipted (λ (r : Receipt). r.up_to) c.commit.result (g.D.Appends.kept c.commit.new.self.disk) c.read.new.self
+    receipted (λ (r : Receipt _). r.up_to) c.commit.result (g.D.Appends.kept c.commit.new.self.disk) c.read.new.self
     c.commit.new.self.count (j.count + length c.deref.result.now) c.commit.new.self.has_failed
     (committed _ c.commit.result (g.D.Appends.kept j.disk) (g.D.Appends.kept c.commit.new.self.disk) es c.read.new.self
     c.deref.result.now j.count c.commit.new.self.count c.commit.new.self.has_failed

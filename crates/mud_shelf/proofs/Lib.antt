@@ -1,0 +1,5 @@
+mod Spelled
+mod Moments
+mod Volumes
+mod Turns
+mod Starts

@@ -1,7 +1,7 @@
 """Flooders: clients that send `say` without end, from one address and from several, while eight players talk. By the
 default limits they delay the players' replies by no more than BOUND. A flooder's burst goes at once. From then on all
-flooders of an address make changes at the rate of their limits, which is measured apart from the burst, and is at most
-SHARE of the changes of a busy world. The addresses are in a network of the part's own, so it wants root and `ip`."""
+flooders together, from one address or from several, make at most SHARE of the changes of a busy world. The addresses
+are in a network of the part's own, so it wants root and `ip`."""
 import contextlib
 import multiprocessing
 import os
@@ -20,16 +20,18 @@ from harness.server import SECONDS, Server
 OURS = "198.51.100.1"
 THEIRS, OTHERS = ([f"198.51.100.{at}" for at in range(first, first + 8)] for first in (2, 10))
 PLAYERS, REPLIES, PAUSE = 8, 100, 0.2
+# The seconds for which the changes of flooders are counted: several may make one more each at its ends.
+WINDOW = 100
 # The longest delay of the 99th of 100 replies.
 BOUND = 0.005
 # The changes of a busy world in a second: 64 players, each with a change a second.
 BUSY_CHANGES = 64
-# The greatest part of them that the flooders of one address make.
+# The greatest part of them that all flooders make.
 SHARE = 0.01
 FLOODERS = 8
 NO_SHARED_LIMITS = ["--address-lines-per-second", "0", "--address-changes-per-minute", "0"]
-# The limits of changes: the rate a minute and the burst, of a session and of an address.
-SESSION, ADDRESS = (limits_by_page()[f"{whose}changes-per-minute"] for whose in ("", "address-"))
+# The limits of changes: the rate a minute and the burst, of a session, of an address, and of all that are beyond these.
+SESSION, ADDRESS, EXCESS = (limits_by_page()[f"{whose}changes-per-minute"] for whose in ("", "address-", "excess-"))
 
 
 def connected(port, source, name):
@@ -82,13 +84,21 @@ def changes_of(journal):
 
 
 def burst_of(sources):
-    """Returns the number of changes that these flooders make at once: each has a burst, and so has each address."""
-    return sum(min(SESSION[1] * sources.count(one), ADDRESS[1]) for one in set(sources))
+    """Returns the number of changes that these flooders make at once: each has a burst, and so has each address. Where
+    they then want more than the excess gives, they make its burst too.
+    """
+    own = sum(min(SESSION[1] * sources.count(one), ADDRESS[1]) for one in set(sources))
+    return own + EXCESS[1] * (own_rate_of(sources) > EXCESS[0])
+
+
+def own_rate_of(sources):
+    """Returns the number of changes in a minute that the limits of sessions and addresses allow these flooders."""
+    return sum(min(SESSION[0] * sources.count(one), ADDRESS[0]) for one in set(sources))
 
 
 def rate_of(sources):
-    """Returns the number of changes in a second that the limits then allow these flooders."""
-    return sum(min(SESSION[0] * sources.count(one), ADDRESS[0]) for one in set(sources)) / 60
+    """Returns the number of changes in a second that all limits then allow these flooders."""
+    return min(own_rate_of(sources), EXCESS[0]) / 60
 
 
 @contextlib.contextmanager
@@ -108,17 +118,20 @@ def flooding(port, sources):
 
 def measured(sources, limited):
     """Returns the delay of the players while these flooders send, the changes of the flooders before that, and those
-    in a second meanwhile. Under limits the players begin once the flooders have made most of their burst.
+    in a second meanwhile. Under limits the players begin once the flooders have made their burst, and the changes are
+    counted for WINDOW.
     """
     with tempfile.TemporaryDirectory() as folder:
         journal = f"{folder}/journal"
         words = ["--address", OURS, "--journal", journal, *([] if limited else NO_SHARED_LIMITS)]
         with Server(program("mud_serve"), words, limited=limited) as server, flooding(server.port, sources):
             end = time.monotonic() + 6 * SECONDS
-            while limited and changes_of(journal) < burst_of(sources) - len(sources) and time.monotonic() < end:
+            while limited and changes_of(journal) < burst_of(sources) and time.monotonic() < end:
                 time.sleep(0.1)
             began, before = time.monotonic(), changes_of(journal)
             delay = delay_of(server.port)
+            while limited and sources and time.monotonic() < began + WINDOW:
+                time.sleep(1)
             return delay, before, (changes_of(journal) - before) / (time.monotonic() - began)
 
 
@@ -133,7 +146,7 @@ def play(count):
               f"{rate / BUSY_CHANGES:.1%} of a busy world's", flush=True)
         count(f"flooders: {what}: delay", more <= BOUND, f"{quiet * 1000:.1f} ms, then {delay * 1000:.1f} ms")
         count(f"flooders: {what}: burst", burst <= burst_of(sources) + len(sources), f"{burst} changes at once")
-        most = min(1.1 * rate_of(sources) + 0.05, SHARE * BUSY_CHANGES * len(set(sources)))
+        most = min(1.1 * rate_of(sources) + 0.05, SHARE * BUSY_CHANGES)
         count(f"flooders: {what}: share", rate <= most, f"{rate:.2f} changes a second")
     delay, _, rate = measured(THEIRS[:1] * FLOODERS, False)
     print(f"flooders: without limits: {(delay - quiet) * 1000:+.1f} ms, {rate:.0f} changes a second")

@@ -717,7 +717,8 @@ def why_named():
         texts = {"address": HOST, "web-address": HOST, "status-address": HOST, "web-origin": "http://localhost:8000"}
         numbers = {"port": 0, "web-port": 0, "status-port": 0, "total": 5, "per-address": 3, "idle": 4, "unnamed": 6,
                    "workers": 1, "capacity": 100, "lines-per-second": 7, "changes-per-minute": 8, "work-per-second": 9,
-                   "address-lines-per-second": 11, "address-changes-per-minute": 12, "connects-per-minute": 13}
+                   "address-lines-per-second": 11, "address-changes-per-minute": 12, "connects-per-minute": 13,
+                   "excess-changes-per-minute": 14}
         flags = {"console": True, "count-players": True}
         valued = {**texts, **files, **numbers}
         ran = subprocess.run([program("mud_serve"), "listen", "--help"], capture_output=True, text=True, check=True)

@@ -266,6 +266,7 @@ def why_address_paced():
     """Once the burst of an address is used, its sessions together make changes at its rate, however many they are."""
     words = ["--address", "::", "--lines-per-second", "0", "--changes-per-minute", "0"]
     words += ["--address-lines-per-second", "0", "--address-changes-per-minute", "60"]
+    words += ["--excess-changes-per-minute", "0"]
     with Hosted(*words, limited=True) as hosted, hosted.console() as console:
         players = [dialled(HERE, hosted.server.port, source) for source in [HERE, HERE_TOO] * 10]
         for at, player in enumerate(players):
@@ -277,6 +278,25 @@ def why_address_paced():
         for player in players:
             player.close()
         return "" if at_once and later <= most else f"{later} changes, and at most {most:.0f} by the limit"
+
+
+def why_beyond():
+    """All sessions that wait for a change share one more limit. A player who does not wait takes nothing from it."""
+    words = ["--lines-per-second", "0", "--changes-per-minute", "30", "--excess-changes-per-minute", "6"]
+    with Hosted(*words, limited=True) as hosted, hosted.console() as console:
+        flooders = [socket.create_connection((HOST, hosted.server.port), timeout=SECONDS) for _ in range(8)]
+        for at, flooder in enumerate(flooders):
+            flooder.sendall(b"connect P%d\r\n" % at + b"say on\r\nlook\r\n" * 400)
+        made = lambda: int(console.status()["made"])
+        bursts = 300 * len(flooders)
+        at_once, began = is_soon(lambda: made() >= bursts, SECONDS), time.monotonic()
+        time.sleep(6)
+        came, replies = build(hosted.server.port, 20)
+        later, most = made() - bursts - len(replies), 6 + len(flooders) + (time.monotonic() - began) / 10
+        for flooder in flooders:
+            flooder.close()
+        right = at_once and 6 <= later <= most and came[-1] < 2
+        return "" if right else f"{later} changes, and at most {most:.0f} by the limit; a player after {came[-1]:.1f} s"
 
 
 def why_network_sessions():
@@ -305,7 +325,7 @@ def why_defaults():
     lines = subprocess.run(command, capture_output=True, text=True, check=True).stdout.splitlines()
     known = dict(line.split() for line in lines)
     times = {"lines-per-second": 10, "changes-per-minute": 10, "work-per-second": 4, "address-lines-per-second": 10,
-             "address-changes-per-minute": 10, "connects-per-minute": 1}
+             "address-changes-per-minute": 10, "excess-changes-per-minute": 1, "connects-per-minute": 1}
     right = {name: (int(known[name]), int(known[name]) * many) for name, many in times.items()}
     return "" if rows == right else f"the page has {rows}, and the program {right}"
 
@@ -319,6 +339,7 @@ ROWS = [
     ("lines of an address", why_addressed),
     ("changes of an address", why_address_changed),
     ("changes of many sessions of an address", in_network(why_address_paced)),
+    ("changes beyond the limits", why_beyond),
     ("connections of an address", why_connects),
     ("lines of an IPv6 network", in_network(why_network_lines)),
     ("connections of an IPv6 network", in_network(why_network_connects)),

@@ -6,7 +6,7 @@ use Rattle.mud_chron.specs.Entry.{Entry}
 use Rattle.mud_chron.specs.Replay.{changes_of, world_at, AreLegal}
 use Rattle.mud_chain.specs.inner.Searched.{IsSearched}
 use Rattle.mud_chain.specs.Chain.{IsContinuation}
-use Rattle.mud_chain.proofs.Grown.{legal_prefix}
+use Rattle.mud_chron.proofs.Grown.{legal_prefix}
 
 pub continued : (old new : List Entry) (end : State) (found : Option ℕ) → AreLegal (changes_of old)
     → AreLegal (changes_of new) → end ≡ world_of (changes_of old)

@@ -1,2 +1,1 @@
-mod Grown
 mod Continued

@@ -1,6 +1,6 @@
--- A history that is legal so far, and its next change.
-use Rattle.std.proofs.Common.{◌≡◌, ℕ, ◌+◌, ◌<◌, List, [], ◌∷◌, ◌++◌, length, take, Option, Some, None, refl, sym, ◌∙◌}
-use Rattle.std.proofs.Common.{ap, subst, get_or}
+-- A history that is legal so far, its next change, and its prefixes.
+use Rattle.std.proofs.Common.{◌≡◌, ℕ, zero, suc, ◌+◌, ◌<◌, List, [], ◌∷◌, ◌++◌, length, take, refl, sym}
+use Rattle.std.proofs.Common.{Option, Some, None, ◌∙◌, ap, subst, get_or}
 use Rattle.std.proofs.lemmas.List.{take_more, take-map, map-append}
 use Rattle.std.specs.Prelude.{is_none, if◌then◌else◌}
 use Rattle.mud_world.specs.State.{State}
@@ -73,3 +73,14 @@ refused es i d w f h legal is next =
       λ all. not_none (sym next ∙ ap (λ v. refusal v c) is
           ∙ legal-at opening_state cs c [] (subst AreLegal (fronts (i + 1) ∙ changes-more es i d h) all)),
     )
+
+legal_front : (w : State) (changes : List Change) (n : ℕ) → AreLegalFrom w changes → AreLegalFrom w (take n changes)
+legal_front w [] zero legal = tt
+legal_front w [] (suc n) legal = tt
+legal_front w (c ∷ changes) zero legal = tt
+legal_front w (c ∷ changes) (suc n) legal = (legal.0, legal_front (after w c) changes n legal.1)
+
+-- a prefix of a legal history is legal
+pub legal_prefix : (es : List Entry) (n : ℕ) → AreLegal (changes_of es) → AreLegal (changes_of (take n es))
+legal_prefix es n legal =
+    subst AreLegal (take-map (λ e. e.change) n es) (legal_front opening_state (changes_of es) n legal)

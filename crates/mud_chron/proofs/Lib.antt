@@ -1,4 +1,4 @@
-mod Grown
+pub mod Grown
 mod Cutting
 pub mod Lined
 mod Digits

@@ -31,6 +31,8 @@ pub struct ChosenRates {
     pub address_lines_per_second: u32,
     /// The number of changes that all sessions of an address make in a minute.
     pub address_changes_per_minute: u32,
+    /// The number of changes beyond these limits that all sessions of the server make in a minute.
+    pub excess_changes_per_minute: u32,
     /// The number of connections of an address that the server accepts in a minute.
     pub connects_per_minute: u32,
     /// The number of milliseconds in a second that the server works on the lines of a session.
@@ -44,6 +46,7 @@ pub(crate) fn rates_in(matches: &ArgMatches) -> Option<ChosenRates> {
         changes_per_minute: matches.get_one::<u32>("changes-per-minute")?,
         address_lines_per_second: matches.get_one::<u32>("address-lines-per-second")?,
         address_changes_per_minute: matches.get_one::<u32>("address-changes-per-minute")?,
+        excess_changes_per_minute: matches.get_one::<u32>("excess-changes-per-minute")?,
         connects_per_minute: matches.get_one::<u32>("connects-per-minute")?,
         work_per_second: matches.get_one::<u32>("work-per-second")?,
     })

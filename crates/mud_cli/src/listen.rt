@@ -5,7 +5,7 @@ use crate::limits::{MOST_PER_ADDRESS, MOST_RATE, MOST_TOTAL};
 use clap::builder::ValueParser;
 
 // The options, in the order of the help text.
-pub(crate) const LISTEN: [Argument; 28] = [
+pub(crate) const LISTEN: [Argument; 29] = [
     Argument {
         name: "port",
         is_required: true,
@@ -125,8 +125,14 @@ pub(crate) const LISTEN: [Argument; 28] = [
     },
     Argument {
         name: "address-changes-per-minute",
-        default: &["36"],
+        default: &["80"],
         help: "How many changes all sessions of an address make in a minute, likewise; 0: no limit",
+        ..RATE
+    },
+    Argument {
+        name: "excess-changes-per-minute",
+        default: &["30"],
+        help: "How many changes beyond these limits all sessions make in a minute, and as many at once; 0: no limit",
         ..RATE
     },
     Argument {

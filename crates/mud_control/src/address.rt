@@ -1,8 +1,9 @@
 //! Rate limits of addresses.
 
-use crate::debt::Debt;
+ghost use Rattle.mud_control.specs.Hosts.{IsHost};
+
 use crate::rates::{CHANGES_AT_ONCE, LINES_AT_ONCE, MINUTE, Rates};
-use mud_meter::Meter;
+use mud_meter::{Debt, Meter};
 use std::alloc::{AllocError, Global};
 use std::net::{IpAddr, Ipv6Addr};
 use std::sync::{Arc, Mutex, Wait};
@@ -65,24 +66,31 @@ impl AddressMeters {
         self.meters.lock(rt).connects.take(now, 1).is_none()
     }
 
-    /// Counts a line. If there is no token for it, counts nothing and returns the time to wait.
-    pub(crate) fn take_line<R: Wait>(&self, rt: &R, now: Duration) -> Option<Duration> {
-        let mut meters = self.meters.lock(rt);
-        match meters.changes.wait(now) {
-            Some(wait) => Some(wait),
-            None => meters.lines.take(now, 1),
-        }
+    /// Returns the time to wait for a change, if there is no token.
+    pub(crate) fn wait_for_change<R: Wait>(&self, rt: &R, now: Duration) -> Option<Duration> {
+        self.meters.lock(rt).changes.wait(now)
     }
 
-    /// Counts a change that was made.
-    pub(crate) fn spend_change<R: Wait>(&self, rt: &R) {
-        self.meters.lock(rt).changes.owe(1);
+    /// Counts a line. If there is no token for it, counts nothing and returns the time to wait.
+    pub(crate) fn take_line<R: Wait>(&self, rt: &R, now: Duration) -> Option<Duration> {
+        self.meters.lock(rt).lines.take(now, 1)
+    }
+
+    /// Counts a change that was made. One beyond the limits leaves no token.
+    pub(crate) fn spend_change<R: Wait>(&self, rt: &R, now: Duration, is_beyond: bool) {
+        let mut meters = self.meters.lock(rt);
+        meters.changes.owe(1);
+        if is_beyond {
+            meters.changes.drain(now);
+        }
     }
 }
 
 /// Returns the address that stands for the host of an address: limits count by it. An IPv6 host usually has all
 /// addresses with the same first 64 bits (RFC 4291, section 2.5.1).
-pub fn host_of(address: IpAddr) -> IpAddr {
+pub fn host_of(address: IpAddr) -> IpAddr
+    ensures { IsHost address result }
+{
     match address {
         IpAddr::V4(_) => address,
         IpAddr::V6(v6) => {

@@ -1,6 +1,7 @@
 //! The state that the threads of a server share with those of its host.
 
 use crate::address::Crowd;
+use crate::excess::Excess;
 use crate::news::News;
 use crate::rates::Rates;
 use crate::roster::Roster;
@@ -37,6 +38,8 @@ pub struct Control {
     pub news: News,
     /// The rate limits of addresses.
     pub crowd: Crowd,
+    /// The rate limit of changes beyond the limits of their sessions.
+    pub excess: Excess,
     /// The rates of sessions.
     pub rates: Rates,
     bans: Mutex<Bans>,
@@ -73,6 +76,7 @@ impl Control {
             roster: Roster::new(alloc, places)?,
             news: News::new(alloc),
             crowd: Crowd::new(alloc, rates),
+            excess: Excess::new(&rates),
             rates,
             bans: Mutex::new(bans),
             has_bans: AtomicBool::new(has_bans),

@@ -11,7 +11,7 @@
 
 mod address;
 mod control;
-mod debt;
+mod excess;
 mod news;
 mod pace;
 mod rates;
@@ -21,6 +21,7 @@ mod tally;
 
 pub use address::{AddressMeters, Crowd, host_of};
 pub use control::{Control, Hosting};
+pub use excess::Excess;
 pub use news::News;
 pub use pace::Pace;
 pub use rates::Rates;

@@ -1,11 +1,15 @@
 //! Rate limits of sessions.
 
 use crate::address::AddressMeters;
-use crate::debt::Debt;
+use crate::excess::Excess;
 use crate::rates::{CHANGES_AT_ONCE, LINES_AT_ONCE, MINUTE, Rates, WORK_AT_ONCE};
-use mud_meter::Meter;
+use mud_meter::{Debt, Meter};
 use std::sync::{Arc, Wait};
 use std::time::Duration;
+
+// The number of seconds for which a session is beyond its limits after it had to wait for a change. So a question
+// between two changes makes no difference, and a player who pauses gets the whole limit back.
+const BEYOND_SECONDS: u64 = 10;
 
 /// The rate limits of a session. The server reads the lines beyond them later.
 #[derive(Drop)]
@@ -15,6 +19,8 @@ pub struct Pace {
     // In milliseconds.
     work: Debt,
     shared: Option<Arc<AddressMeters>>,
+    // Until then the session is beyond its limits: it had to wait for a change a moment ago.
+    beyond_until: Duration,
     // True if the session's own token for the next line was taken already, and that of its address.
     has_token: bool,
     has_shared: bool,
@@ -41,6 +47,7 @@ impl Pace {
                 now,
             ),
             shared,
+            beyond_until: Duration::ZERO,
             has_token: false,
             has_shared: false,
         }
@@ -51,11 +58,26 @@ impl Pace {
         self.shared.is_some()
     }
 
-    // Takes a token of the session. Returns the time to wait if the session has no token.
-    fn wait_for_own(&mut self, now: Duration) -> Option<Duration> {
+    // Returns the time to wait for a change, if a token of the session or of its address is missing. A session that is
+    // beyond its limits waits for the excess of all sessions as well.
+    fn wait_for_change<R: Wait>(&self, rt: &R, excess: &Excess, now: Duration) -> Option<Duration> {
         if let Some(wait) = self.changes.wait(now) {
             return Some(wait);
         }
+        if let Some(shared) = &self.shared
+            && let Some(wait) = shared.wait_for_change(rt, now)
+        {
+            return Some(wait);
+        }
+        if now < self.beyond_until {
+            excess.wait(rt, now)
+        } else {
+            None
+        }
+    }
+
+    // Takes a token of the session. Returns the time to wait if the session has no token.
+    fn wait_for_own(&mut self, now: Duration) -> Option<Duration> {
         if let Some(wait) = self.work.wait(now) {
             return Some(wait);
         }
@@ -68,7 +90,16 @@ impl Pace {
     }
 
     /// Takes the tokens for the next line. Returns the time to wait if one is missing; then the caller tries again.
-    pub fn take_line<R: Wait>(&mut self, rt: &R, now: Duration) -> Option<Duration> {
+    pub fn take_line<R: Wait>(
+        &mut self,
+        rt: &R,
+        excess: &Excess,
+        now: Duration,
+    ) -> Option<Duration> {
+        if let Some(wait) = self.wait_for_change(rt, excess, now) {
+            self.beyond_until = now.saturating_add(Duration::from_secs(BEYOND_SECONDS));
+            return Some(wait);
+        }
         if let Some(wait) = self.wait_for_own(now) {
             return Some(wait);
         }
@@ -89,15 +120,33 @@ impl Pace {
         self.has_shared = true;
     }
 
+    // Counts a change that was made. One beyond the limits counts for the excess of all sessions, and leaves no token,
+    // so a session that waits for the excess gains nothing meanwhile.
+    fn spend_change<R: Wait>(&mut self, rt: &R, excess: &Excess, now: Duration) {
+        let is_beyond = now < self.beyond_until;
+        self.changes.spend(now, 1);
+        if is_beyond {
+            self.changes.drain(now);
+            excess.spend(rt);
+        }
+        if let Some(shared) = &self.shared {
+            shared.spend_change(rt, now, is_beyond);
+        }
+    }
+
     /// Counts an answered line: the time that it took, and whether it made a change.
-    pub fn spend<R: Wait>(&mut self, rt: &R, now: Duration, work: Duration, has_changed: bool) {
+    pub fn spend<R: Wait>(
+        &mut self,
+        rt: &R,
+        excess: &Excess,
+        now: Duration,
+        work: Duration,
+        has_changed: bool,
+    ) {
         let millis = u32::try_from(work.as_millis()).unwrap_or(u32::MAX);
         self.work.owe(millis);
         if has_changed {
-            self.changes.spend(now, 1);
-            if let Some(shared) = &self.shared {
-                shared.spend_change(rt);
-            }
+            self.spend_change(rt, excess, now);
         }
     }
 }

@@ -1,7 +1,8 @@
 //! The rates of a server's limits.
 
 /// The rates of a server's limits; 0 means no limit. A burst of lines is what the rate gives in ten seconds. For
-/// changes it is what the rate gives in ten minutes, for connections in one minute, and for work in four seconds.
+/// changes it is what the rate gives in ten minutes, for connections and for changes beyond the limits in one minute,
+/// and for work in four seconds.
 #[derive(Clone, Copy, Debug, PartialEq, Eq)]
 pub struct Rates {
     /// The number of lines of a session that are answered in a second.
@@ -12,6 +13,8 @@ pub struct Rates {
     pub address_lines_per_second: u32,
     /// The number of changes that all sessions of an address make in a minute.
     pub address_changes_per_minute: u32,
+    /// The number of changes beyond these limits that all sessions of the server make in a minute.
+    pub excess_changes_per_minute: u32,
     /// The number of connections of an address that the server accepts in a minute.
     pub connects_per_minute: u32,
     /// The number of milliseconds in a second that the server works on the lines of a session.
@@ -36,6 +39,7 @@ impl Rates {
         changes_per_minute: 0,
         address_lines_per_second: 0,
         address_changes_per_minute: 0,
+        excess_changes_per_minute: 0,
         connects_per_minute: 0,
         work_per_second: 0,
     };

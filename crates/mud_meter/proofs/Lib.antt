@@ -1,3 +1,4 @@
 mod Waits
 mod Through
 mod Asked
+mod Paid

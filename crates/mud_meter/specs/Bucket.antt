@@ -30,6 +30,10 @@ full b = b.burst * TOKEN
 abbrev pub cost : Bucket → ℕ → ℕ
 cost b tokens = if b.rate == 0 then 0 else min tokens b.burst * TOKEN
 
+-- the number of tokens that can be taken at once: as many as the bucket holds, and any number if there is no limit
+abbrev pub payable : Bucket → ℕ → ℕ
+payable b tokens = if b.rate == 0 then tokens else min tokens b.burst
+
 -- the bucket after its gain since the latest time, up to its greatest level; an earlier time changes nothing
 abbrev pub refilled : Bucket → ℕ → Bucket
 refilled b now = record b { level = min (b.level + (now - b.last) * b.rate) (full b); last = max b.last now }

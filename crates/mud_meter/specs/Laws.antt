@@ -1,8 +1,10 @@
 -- Laws of the definitions. The gain of a period is `time * rate`.
 use Rattle.std.specs.Prelude.{◌≡◌, ◌↔◌, ◌≤◌, ◌<◌, ℕ, ◌+◌, ◌-◌, ◌*◌, max, List, None, Some}
 use Rattle.std.specs.List.{AllByRecursion}
+use Rattle.mud_meter.specs.declared.meter.TheConstants.{TOKEN}
 use Rattle.mud_meter.specs.Bucket.{Bucket, full, cost, refilled, wait_for, after_take}
 use Rattle.mud_meter.specs.Calls.{Call, time_of, all_through, asked, during, AreInOrder}
+use Rattle.mud_meter.specs.Debt.{Owing, after_ask, wait_of, Event, after_events, all_added, IsDuring}
 
 -- in any period, calls in any order let through at most the burst and the gain of the period, whatever the level was
 -- before
@@ -35,3 +37,15 @@ LetsThroughAll =
 -- a bucket refilled at two times has the level of a bucket refilled once, at the later time
 abbrev pub RefillsAlike : Type 0
 RefillsAlike = (b : Bucket) (now later : ℕ) → refilled (refilled b now) later ≡ refilled b (max now later)
+
+-- in any period, the callers of a debt owe at most the burst, the gain of the period, and what is owed at its end
+abbrev pub OwesAtMost : Type 0
+OwesAtMost =
+    (d : Owing) (events : List Event) (from to : ℕ) → 0 < d.bucket.rate
+    → AllByRecursion (IsDuring from to) events
+    → (d.owed + all_added d events) * TOKEN
+    ≤ full d.bucket + (to - from) * d.bucket.rate + (after_events d events).owed * TOKEN
+
+-- nothing is owed when a caller may act
+abbrev pub ActsWithoutDebt : Type 0
+ActsWithoutDebt = (d : Owing) (now : ℕ) → wait_of d now ≡ None → (after_ask d now).owed ≡ 0

@@ -1,3 +1,4 @@
 pub mod Bucket
 pub mod Calls
+pub mod Debt
 pub mod Laws

@@ -3,6 +3,7 @@
 ghost use Rattle.std.specs.Prelude.{◌≡◌};
 ghost use Rattle.mud_meter.specs.declared.meter.TheConstants.{TOKEN};
 ghost use Rattle.mud_meter.specs.Laws.{LetsThroughAtMost, WaitIsExact, SlowNeverWaits, LetsThroughAll, RefillsAlike};
+ghost use Rattle.mud_meter.specs.Laws.{OwesAtMost, ActsWithoutDebt};
 
 /// Promises the number of units in a token.
 pub fn limits()
@@ -32,4 +33,14 @@ pub fn within_the_bound()
 /// The gain of a meter does not depend on how often it is asked.
 pub fn asked_often()
     ensures { RefillsAlike }
+{}
+
+/// In any period, the callers of a debt owe at most the burst, the gain of the period, and what is owed at its end.
+pub fn debts()
+    ensures { OwesAtMost }
+{}
+
+/// Nothing is owed when a caller may act.
+pub fn debt_free()
+    ensures { ActsWithoutDebt }
 {}

@@ -29,7 +29,9 @@
 //! through, and so is a caller that waits as long as the meter said.
 #![tactic(auto)]
 
+mod debt;
 pub mod laws;
 mod meter;
 
+pub use debt::{Debt, MOST_OWED};
 pub use meter::Meter;

@@ -2,7 +2,7 @@
 
 ghost use Rattle.std.specs.Prelude.{◌≡◌, ◌*◌, max, option_map};
 ghost use Rattle.std.specs.Duration.{as_nanos};
-ghost use Rattle.mud_meter.specs.Bucket.{micros, in_nanos, cost, refilled, wait_for, without, after_take};
+ghost use Rattle.mud_meter.specs.Bucket.{micros, in_nanos, payable, cost, refilled, wait_for, without, after_take};
 
 use std::marker::Model;
 use std::time::Duration;
@@ -79,6 +79,14 @@ impl Meter {
         self.remove(tokens);
     }
 
+    /// Removes all tokens.
+    pub fn drain(&mut self, now: Duration)
+        ensures { self.new ≡ (let asked = refilled self.old (micros now) in without asked asked.burst) }
+    {
+        let all = self.burst;
+        self.spend(now, all);
+    }
+
     /// Returns the time until there is a token, if there is none now.
     pub fn wait(&self, now: Duration) -> Option<Duration>
         ensures { let asked = refilled self.now (micros now) in
@@ -101,8 +109,8 @@ impl Meter {
         }
     }
 
-    // Returns the time until there are `tokens` tokens, if there are too few now.
-    fn wait_for(&self, tokens: u32) -> Option<Duration>
+    /// Returns the time until there are `tokens` tokens, if there are too few now.
+    pub(crate) fn wait_for(&self, tokens: u32) -> Option<Duration>
         ensures { option_map as_nanos result ≡ option_map in_nanos (wait_for self.now tokens) }
     {
         let missing = self.cost(tokens).saturating_sub(self.level);
@@ -111,6 +119,16 @@ impl Meter {
         }
         let micros = missing.div_ceil(u64::from(self.rate));
         Some(Duration::from_micros(micros))
+    }
+
+    /// Returns the number of tokens that can be taken at once: at most `tokens`, and the burst if there is a limit.
+    pub(crate) fn payable(&self, tokens: u32) -> u32
+        ensures { result ≡ payable self.now tokens }
+    {
+        match self.rate {
+            0 => tokens,
+            _ => tokens.min(self.burst),
+        }
     }
 
     // Takes `tokens` tokens, or all if there are fewer.

@@ -52,6 +52,11 @@ fn say_rates<R: Print>(rt: &R, rates: ChosenRates) -> Result<(), Stop> {
         "address-changes-per-minute",
         rates.address_changes_per_minute,
     )?;
+    say_number(
+        rt,
+        "excess-changes-per-minute",
+        rates.excess_changes_per_minute,
+    )?;
     say_number(rt, "connects-per-minute", rates.connects_per_minute)?;
     say_number(rt, "work-per-second", rates.work_per_second)
 }

@@ -40,6 +40,7 @@ fn rates_of(chosen: ChosenRates) -> Rates {
         changes_per_minute: chosen.changes_per_minute,
         address_lines_per_second: chosen.address_lines_per_second,
         address_changes_per_minute: chosen.address_changes_per_minute,
+        excess_changes_per_minute: chosen.excess_changes_per_minute,
         connects_per_minute: chosen.connects_per_minute,
         work_per_second: chosen.work_per_second,
     }

@@ -16,6 +16,7 @@ use Rattle.mud_server_state.specs.contracts.state.ServerState as ServerState
 use Rattle.mud_server_state.specs.contracts.state.Places as Places
 use Rattle.mud_server_threads.specs.contracts.connection.Connection as Connection
 use Rattle.mud_server_threads.specs.contracts.server.Server as Server
+use Rattle.mud_server_threads.specs.contracts.server.Start as Start
 
 -- a server's state, by its parts
 pub state_sync : (J : RattleType) (h : HallName.Ghosts J.Denot) → IsSend J → IsSync J
@@ -27,6 +28,9 @@ connection_send J h s = search (sendable, crosses, client_send) depth 40 fits 20
 
 pub connection_sync : (J : RattleType) (h : HallName.Ghosts J.Denot) → IsSend J → IsSync (Connection.the_row J h)
 connection_sync J h s = search (sendable, crosses, client_send) depth 40 fits 20000
+
+pub start_send : (J : RattleType) (h : HallName.Ghosts J.Denot) → IsSend J → IsSend (Start.the_row J h)
+start_send J h s = search (sendable, crosses, connection_send, connection_sync) depth 40 fits 20000
 
 -- the values that a thread of a server starts with
 pub server_send : (ℓ : NamedLft) (E J R : RattleType) (h : HallName.Ghosts J.Denot) → IsSend J → IsSync J → IsSync R

@@ -147,7 +147,7 @@ impl<'a, J: HallName, R: Threads + Wait + Log + Clock + Sync> Reading<'a, J, R> 
         let (rt, state) = (self.rt, self.state);
         for round in 0..u64::MAX {
             let moment = now(rt);
-            let Some(wait) = self.pace.take_line(rt, moment) else {
+            let Some(wait) = self.pace.take_line(rt, &state.control.excess, moment) else {
                 return;
             };
             if self.connection.ending(rt, state).is_some() {
@@ -163,14 +163,15 @@ impl<'a, J: HallName, R: Threads + Wait + Log + Clock + Sync> Reading<'a, J, R> 
     // Counts an answered line for the rate limits and for the host. A line end without an answer, such as the second
     // one of CR LF, keeps its token for the next line.
     fn spend(&mut self, took: Duration, outgoing: &Outgoing<J>) {
-        let (rt, tally) = (self.rt, &self.state.control.tally);
+        let (rt, control) = (self.rt, &self.state.control);
         if outgoing.has_line && outgoing.text.is_empty() {
             self.pace.give_back();
         } else if outgoing.has_line {
-            tally.count_line();
+            control.tally.count_line();
         }
+        let has_changed = outgoing.accepted.is_some();
         self.pace
-            .spend(rt, now(rt), took, outgoing.accepted.is_some());
+            .spend(rt, &control.excess, now(rt), took, has_changed);
     }
 
     // Names the session's player in the log and for the host, once there is one.

@@ -38,6 +38,14 @@ pub(crate) struct Begun<J: HallName> {
     pub(crate) number: u32,
 }
 
+/// The values for the reader thread of a session: its place, and the number of its desk.
+#[derive(Drop)]
+pub(crate) struct Start<J: HallName> {
+    connection: Arc<Connection<J>>,
+    at: usize,
+    number: u32,
+}
+
 // Returns why a connection without a place is refused.
 fn refusal_of(no_place: NoPlace) -> Refusal {
     match no_place {
@@ -164,13 +172,21 @@ where
         read_all(self.rt, self.state, connection, at, number, first);
     }
 
+    // Runs the reader thread of a session without any input yet.
+    fn read_at(&self, start: &Start<J>) {
+        self.read(&start.connection, start.at, start.number, &[]);
+    }
+
     /// Starts the reader thread of the session at a place, at the desk with this number. Returns whether it could be
     /// started.
     pub(crate) fn begin_reading(&self, reads: Arc<Connection<J>>, at: usize, number: u32) -> bool {
         let server = self.again();
-        let reading = self
-            .scope
-            .spawn(move || server.read(&reads, at, number, &[]));
+        let start = Start {
+            connection: reads,
+            at,
+            number,
+        };
+        let reading = self.scope.spawn(move || server.read_at(&start));
         reading.is_ok()
     }
 }

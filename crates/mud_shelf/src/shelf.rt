@@ -74,7 +74,7 @@ pub struct FoundVolume<D> {
     pub torn: usize,
 }
 
-// Returns the highest number of a volume, or 1 if there is none.
+// Returns the highest number of a volume, or 1 if there are no volumes.
 fn latest<S: Shelf>(shelf: &S, journal: &str) -> Result<u32, OpenFault>
     ensures ok { IfOk result (λ n. IfSome (S.files shelf.now) (λ folder. IsCurrent journal.now folder n)) }
     ensures err { IfErr result (λ fault. IfSome (S.files shelf.now) (λ folder. IsOfSystem fault)) }

@@ -1,2 +1,3 @@
 mod Holes
 mod Moments
+mod Received

@@ -26,6 +26,8 @@ mod rows;
 #[cfg(test)]
 mod search;
 #[cfg(test)]
+mod served;
+#[cfg(test)]
 mod sessions;
 #[cfg(test)]
 mod shared;

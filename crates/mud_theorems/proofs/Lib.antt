@@ -7,7 +7,12 @@ mod Owning
 mod Texts
 mod Browsing
 mod Small
+mod Talked
+mod Connections
+mod Claims
+mod Keeping
 pub mod Feeding
 pub mod Jobs
 mod Crosses
+mod Crossings
 mod Sample

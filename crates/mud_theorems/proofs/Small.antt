@@ -61,11 +61,11 @@ line_short held bytes stands =
 
 -- ---- empty lists
 
-left-nil : {A : Type 0} (xs ys : List A) → xs ++ ys ≡ [] → xs ≡ []
+pub left-nil : {A : Type 0} (xs ys : List A) → xs ++ ys ≡ [] → xs ≡ []
 left-nil [] ys e = refl
 left-nil (x ∷ xs) ys e = absurd (cc)
 
-right-nil : {A : Type 0} (xs ys : List A) → xs ++ ys ≡ [] → ys ≡ []
+pub right-nil : {A : Type 0} (xs ys : List A) → xs ++ ys ≡ [] → ys ≡ []
 right-nil [] ys e = e
 right-nil (x ∷ xs) ys e = absurd (cc)
 
@@ -106,7 +106,7 @@ turns_quiet capacity (turn ∷ turns) old new g (mid, does, last, plays) none =
     ∙ turns_quiet capacity turns mid new here.0 plays
     (right-nil (option_to_list (unit_of turn.case)) (units_of turns) none)
 
-greeted : (capacity : ℕ) (session : SessionState) (desk : DeskState) → IsTalk capacity greeting [] [] session desk
+pub greeted : (capacity : ℕ) (session : SessionState) (desk : DeskState) → IsTalk capacity greeting [] [] session desk
     → session.out ≡ greeting
 greeted capacity session desk t =
     let none : units_of t.turns ≡ [] = left-nil (units_of t.turns) t.left (sym t.given) in
@@ -144,7 +144,7 @@ typed_none : typed_of [] ≡ []
 unfolding read_times read_step decode_frame decode_header
 typed_none = refl
 
-framed_none : (framing : Framing) (typed said : List ℕ) → Frames framing [] typed said []
+pub framed_none : (framing : Framing) (typed said : List ℕ) → Frames framing [] typed said []
     → (typed ≡ []) × (said ≡ [])
 framed_none Telnet typed said (types, says) = (types, sym says)
 framed_none (Web channel) typed said f =

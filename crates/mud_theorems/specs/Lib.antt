@@ -5,4 +5,6 @@ pub mod Owning
 pub mod Browsers
 pub mod Sizes
 pub mod Laws
+pub mod Peers
+pub mod Serving
 pub mod inner

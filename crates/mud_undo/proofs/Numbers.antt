@@ -1,10 +1,10 @@
 -- The numbers that objects get in a legal history.
-use Rattle.std.proofs.Common.{◌≡◌, ℕ, ◌+◌, ◌≤◌, ◌<◌, List, [], ◌∷◌, ◌++◌, length, take, drop, get_or, Option, Some}
-use Rattle.std.proofs.Common.{None, refl, sym, ◌∙◌, ap, subst, arith}
+use Rattle.std.proofs.Common.{◌≡◌, ℕ, ◌+◌, ◌≤◌, ◌<◌, List, [], ◌∷◌, ◌++◌, length, take, get_or, Option, Some}
+use Rattle.std.proofs.Common.{None, refl, sym, ◌∙◌, ap, arith}
 use Rattle.std.specs.Prelude.{nat_eq, unwrap_or}
 use Rattle.std.specs.Map.{set_value}
 use Rattle.std.specs.Option.{option_map_or}
-use Rattle.std.proofs.lemmas.List.{take-append-drop, take_more}
+use Rattle.std.proofs.lemmas.List.{take_more}
 use Rattle.mud_world.specs.State.{State, record_at, place_of, destination_of}
 use Rattle.mud_world.specs.Opening.{opening_state}
 use Rattle.mud_world.specs.Legal.{after}
@@ -20,6 +20,7 @@ use Rattle.mud_world.specs.declared.change.Deed.TheVariants.{Recycle, Say, Emote
 use Rattle.mud_world.proofs.Worlds.{stepped-legal, worlds_law}
 use Rattle.mud_chron.specs.Entry.{Entry}
 use Rattle.mud_chron.specs.Replay.{changes_of, AreLegalFrom, AreLegal}
+use Rattle.mud_chron.proofs.Grown.{legal_prefix}
 use Rattle.mud_undo.specs.Without.{count_made}
 
 -- ---- one change
@@ -98,17 +99,6 @@ number-bounded es legal =
     let same = follows opening_state es legal in
     omega (arith, limit, same)
 
--- a beginning of a legal history is legal
-legal-front : (w : State) (es fs : List Entry) → AreLegalFrom w (changes_of (es ++ fs))
-    → AreLegalFrom w (changes_of es)
-legal-front w [] fs legal = tt
-legal-front w (e ∷ es) fs legal = (legal.0, legal-front (after w e.change) es fs legal.1)
-
-pub legal-take : (es : List Entry) (n : ℕ) → AreLegal (changes_of es) → AreLegal (changes_of (take n es))
-legal-take es n legal =
-    legal-front opening_state (take n es) (drop n es)
-    (subst (λ l. AreLegal (changes_of l)) (sym (take-append-drop n es)) legal)
-
 -- one entry more
 pub number-more : (n : ℕ) (es : List Entry) (i : ℕ) (d : Entry) → i < length es
     → number_after n (take (i + 1) es) ≡ number_after n (take i es) + count_made (get_or es i d).change.deed
@@ -120,5 +110,5 @@ pub number-room : (es : List Entry) (i : ℕ) (d : Entry) → AreLegal (changes_
     → number_after opening_state.next (take i es) + count_made (get_or es i d).change.deed ≤ NUMBERS
 number-room es i d legal less =
     let more = number-more opening_state.next es i d less in
-    let bound = number-bounded (take (i + 1) es) (legal-take es (i + 1) legal) in
+    let bound = number-bounded (take (i + 1) es) (legal_prefix es (i + 1) legal) in
     omega (arith, more, bound)

@@ -1,7 +1,7 @@
 use Rattle.std.proofs.Common.{◌≡◌, get_or, sym, ◌∙◌, ap, arith}
 use Rattle.mud_world.specs.Legal.{refusal, after}
 use Rattle.mud_chron.specs.Replay.{world_at}
-use Rattle.mud_chain.proofs.Grown.{grown, refused}
+use Rattle.mud_chron.proofs.Grown.{grown, refused}
 use Rattle.mud_chain.proofs.searching.version_in.Goals as goal
 
 pub returns-in-Err-clause-err : goal.returns-in-Err-clause-err

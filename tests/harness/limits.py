@@ -299,6 +299,31 @@ def why_beyond():
         return "" if right else f"{later} changes, and at most {most:.0f} by the limit; a player after {came[-1]:.1f} s"
 
 
+def seconds_to_say(one, name, count):
+    """Says this many things as a new player, one after the other. Returns the longest time until an answer."""
+    one.sendall(b"connect %s\r\n" % name)
+    longest, came = 0, b""
+    for at in range(count):
+        began = time.monotonic()
+        one.sendall(b"say thing %d\r\n" % at)
+        while not re.search(rb"\[\d+\] said\r\n", came):
+            came += one.recv(65_536)
+        longest, came = max(longest, time.monotonic() - began), b""
+        time.sleep(0.05)
+    return longest
+
+
+def why_beside():
+    """A player does not wait because another one of the address pastes more than the limit."""
+    with Hosted("--address", "::", limited=True) as hosted, hosted.console() as console:
+        port = hosted.server.port
+        with dialled(HERE, port, HERE, seconds=60) as ann, dialled(HERE, port, HERE_TOO, seconds=60) as eve:
+            ann.sendall(b"connect Ann\r\n" + b"say brick\r\n" * 260)
+            waits = is_soon(lambda: console.status()["waited"] == "1", SECONDS)
+            longest = seconds_to_say(eve, b"Eve", 60)
+        return "" if waits and longest < 0.3 else f"{waits}, Eve waited {longest:.2f} s"
+
+
 def why_network_sessions():
     """`--per-address` counts the sessions of one IPv6 network together, and those of another apart."""
     with Hosted("--address", "::", "--per-address", "2") as hosted:
@@ -340,6 +365,7 @@ ROWS = [
     ("changes of an address", why_address_changed),
     ("changes of many sessions of an address", in_network(why_address_paced)),
     ("changes beyond the limits", why_beyond),
+    ("changes beside one who pastes", in_network(why_beside)),
     ("connections of an address", why_connects),
     ("lines of an IPv6 network", in_network(why_network_lines)),
     ("connections of an IPv6 network", in_network(why_network_connects)),

@@ -76,11 +76,11 @@ impl AddressMeters {
         self.meters.lock(rt).lines.take(now, 1)
     }
 
-    /// Counts a change that was made. One beyond the limits leaves no token.
-    pub(crate) fn spend_change<R: Wait>(&self, rt: &R, now: Duration, is_beyond: bool) {
+    /// Counts a change that was made. A drained one leaves no token.
+    pub(crate) fn spend_change<R: Wait>(&self, rt: &R, now: Duration, is_drained: bool) {
         let mut meters = self.meters.lock(rt);
         meters.changes.owe(1);
-        if is_beyond {
+        if is_drained {
             meters.changes.drain(now);
         }
     }

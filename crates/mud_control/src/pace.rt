@@ -11,6 +11,11 @@ use std::time::Duration;
 // between two changes makes no difference, and a player who pauses gets the whole limit back.
 const BEYOND_SECONDS: u64 = 10;
 
+// Returns the time until which a session that has to wait now is beyond its limits.
+fn beyond_from(now: Duration) -> Duration {
+    now.saturating_add(Duration::from_secs(BEYOND_SECONDS))
+}
+
 /// The rate limits of a session. The server reads the lines beyond them later.
 #[derive(Drop)]
 pub struct Pace {
@@ -21,6 +26,8 @@ pub struct Pace {
     shared: Option<Arc<AddressMeters>>,
     // Until then the session is beyond its limits: it had to wait for a change a moment ago.
     beyond_until: Duration,
+    // Until then a change leaves no token: the session had to wait for the excess a moment ago.
+    drains_until: Duration,
     // True if the session's own token for the next line was taken already, and that of its address.
     has_token: bool,
     has_shared: bool,
@@ -48,6 +55,7 @@ impl Pace {
             ),
             shared,
             beyond_until: Duration::ZERO,
+            drains_until: Duration::ZERO,
             has_token: false,
             has_shared: false,
         }
@@ -60,7 +68,12 @@ impl Pace {
 
     // Returns the time to wait for a change, if a token of the session or of its address is missing. A session that is
     // beyond its limits waits for the excess of all sessions as well.
-    fn wait_for_change<R: Wait>(&self, rt: &R, excess: &Excess, now: Duration) -> Option<Duration> {
+    fn wait_for_change<R: Wait>(
+        &mut self,
+        rt: &R,
+        excess: &Excess,
+        now: Duration,
+    ) -> Option<Duration> {
         if let Some(wait) = self.changes.wait(now) {
             return Some(wait);
         }
@@ -69,11 +82,14 @@ impl Pace {
         {
             return Some(wait);
         }
-        if now < self.beyond_until {
-            excess.wait(rt, now)
-        } else {
-            None
+        if now >= self.beyond_until {
+            return None;
         }
+        let wait = excess.wait(rt, now);
+        if wait.is_some() {
+            self.drains_until = beyond_from(now);
+        }
+        wait
     }
 
     // Takes a token of the session. Returns the time to wait if the session has no token.
@@ -97,7 +113,7 @@ impl Pace {
         now: Duration,
     ) -> Option<Duration> {
         if let Some(wait) = self.wait_for_change(rt, excess, now) {
-            self.beyond_until = now.saturating_add(Duration::from_secs(BEYOND_SECONDS));
+            self.beyond_until = beyond_from(now);
             return Some(wait);
         }
         if let Some(wait) = self.wait_for_own(now) {
@@ -120,17 +136,19 @@ impl Pace {
         self.has_shared = true;
     }
 
-    // Counts a change that was made. One beyond the limits counts for the excess of all sessions, and leaves no token,
-    // so a session that waits for the excess gains nothing meanwhile.
+    // Counts a change that was made. One beyond the limits counts for the excess of all sessions. Where the session had
+    // to wait for the excess, the change leaves no token, so the session gains nothing while it waits.
     fn spend_change<R: Wait>(&mut self, rt: &R, excess: &Excess, now: Duration) {
-        let is_beyond = now < self.beyond_until;
+        let is_drained = now < self.drains_until;
         self.changes.spend(now, 1);
-        if is_beyond {
+        if is_drained {
             self.changes.drain(now);
+        }
+        if now < self.beyond_until {
             excess.spend(rt);
         }
         if let Some(shared) = &self.shared {
-            shared.spend_change(rt, now, is_beyond);
+            shared.spend_change(rt, now, is_drained);
         }
     }
 

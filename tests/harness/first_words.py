@@ -23,7 +23,8 @@ FORMS = {
     "mud_serve": (["", "script", "listen"], 3),
     "mud_explain": (["", "units", "words", "parse", "names", "key", "hall"], 3),
     "mud_check": ([""], 2),
-    "mud_keep": (["", "recover", "shorten", "show", "map", "survey", "diff", "chain", "without", "lines"], 2),
+    "mud_keep": (
+        ["", "recover", "shorten", "compact", "show", "map", "survey", "diff", "chain", "without", "lines"], 2),
 }
 
 

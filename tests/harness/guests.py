@@ -394,17 +394,24 @@ def warned(server):
 
 
 def why_nearly_full():
-    """A client fills the history: the log warns at nine tenths, once, and again after a restart."""
-    with Place(said(7)) as place:
-        with place.server("--capacity", "10", console=True) as server:
+    """A client fills the history of a server without a journal: the log warns at nine tenths, once, and again after a
+    restart. With a journal the server turns (`volumes`)."""
+    with Place() as place:
+        with open(place.whole, "wb") as file:
+            file.write(ended(said(7)))
+        words = ["--capacity", "10", "--load", place.whole]
+        with Server(program("mud_serve"), words, console=True) as server:
             client, answers = named(server.port), []
             for _ in range(3):
                 client.send(b"say on")
                 answers.append(client.line())
-            first = answers, stop(server)[0], warned(server)
-        with place.server("--capacity", "10", console=True) as server:
+            (status, printed), warnings = stop(server), warned(server)
+        with open(place.whole, "wb") as file:
+            file.write(printed)
+        with Server(program("mud_serve"), words, console=True) as server:
             second = stop(server)[0], warned(server)
     wanted = ([b"[9] said", b"[10] said", HISTORY_FULL], 0, [(9, 10)]), (0, [(10, 10)])
+    first = answers, status, warnings
     return "" if (first, second) == wanted else f"{first}, {second}"
 
 

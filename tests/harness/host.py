@@ -33,9 +33,10 @@ TIME = r"[0-9]{4}-[0-9]{2}-[0-9]{2}T[0-9]{2}:[0-9]{2}:[0-9]{2}Z"
 OPTION = re.compile(r"^ +(?:-\w, )?--([\w-]+)", re.M)
 NO_ORDER = "error no such order: help tells them"
 # The words of the console, and the names of its lines of `status`.
-WORDS = "status sessions end ban unban bans tell stop stay reopen help".split()
+WORDS = "status sessions end ban unban bans tell stop stay volume reopen help".split()
 NAMES = """version since health changes changes_most synced objects objects_most sessions sessions_most players begun
-refused_full refused_address refused_banned refused_often refused_request lines made waited""".split()
+refused_full refused_address refused_banned refused_often refused_request lines made waited volume changes_taken turns
+turns_called_off turn_pause_ms""".split()
 
 
 # A shell that starts a program whose files have at most 4,096 bytes. Python ignores the signal of that limit, and so
@@ -59,7 +60,8 @@ def why_words():
         fine = [("end 64", "error no session 64"), ("ban here", "error no address or network: here"),
                 ("ban 192.0.2.1/24", "error no address or network: 192.0.2.1/24"), ("ban ::ffff:192.0.2.1",
                  "error no address or network: ::ffff:192.0.2.1"), ("unban 192.0.2.1", "error not banned: 192.0.2.1"),
-                ("stay", "error no stop was announced"), ("  bans  ", "ok"), ("reopen", "ok"), ("tell hi\r", "ok")]
+                ("stay", "error no stop was announced"), ("volume", "error there is no journal"), ("  bans  ", "ok"),
+                ("reopen", "ok"), ("tell hi\r", "ok")]
         unlike = [(line, console.ask(line)[-1]) for line, answer in fine if (console.ask(line)[-1]) != answer]
         return "" if not refused and not unlike else f"{refused}, {unlike}"
 
@@ -89,6 +91,7 @@ def why_status():
                   "objects": "3", "objects_most": "8192", "sessions": "2", "sessions_most": "64", "players": "1",
                   "begun": "1", "refused_full": "0", "refused_address": "1", "refused_banned": "0",
                   "refused_often": "0", "refused_request": "0", "lines": "2", "made": "2", "waited": "0",
+                  "volume": "1", "changes_taken": "0", "turns": "0", "turns_called_off": "0", "turn_pause_ms": "0",
                   "since": before["since"]}
         is_right = [*before] == NAMES and after == wanted and full["health"] == "history-full"
         is_right &= re.fullmatch(TIME, before["since"]) is not None and full["changes"] == "5" == full["made"]
@@ -534,7 +537,9 @@ def why_metrics():
         pairs = {"mud_changes": "changes", "mud_changes_most": "changes_most", "mud_synced_changes": "synced",
                  "mud_objects": "objects", "mud_objects_most": "objects_most", "mud_sessions": "sessions",
                  "mud_sessions_most": "sessions_most", "mud_players": "players", "mud_sessions_begun_total": "begun",
-                 "mud_lines_total": "lines", "mud_changes_made_total": "made", "mud_lines_waited_total": "waited"}
+                 "mud_lines_total": "lines", "mud_changes_made_total": "made", "mud_lines_waited_total": "waited",
+                 "mud_volume": "volume", "mud_changes_taken": "changes_taken", "mud_turns_total": "turns",
+                 "mud_turns_called_off_total": "turns_called_off"}
         pairs |= {f'mud_refused_total{{why="{why}"}}': f"refused_{why}"
                   for why in ("full", "address", "banned", "often", "request")}
         unlike = [(name, metric_of(text, name), stands[word]) for name, word in pairs.items()
@@ -637,7 +642,8 @@ def why_journaled():
     """With a journal the log names its changes and its torn bytes."""
     with tempfile.TemporaryDirectory() as folder:
         path = os.path.join(folder, "journal")
-        for wanted, more in (("journal changes=0 torn=0", b""), ("journal changes=1 torn=4", b"2 1 ")):
+        for counts, more in (("changes=0 torn=0", b""), ("changes=1 torn=4", b"2 1 ")):
+            wanted = f"journal volume=1 {counts}"
             if more:
                 with open(path, "ab") as file:
                     file.write(more)

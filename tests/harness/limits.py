@@ -320,7 +320,7 @@ def why_beside():
         with dialled(HERE, port, HERE, seconds=60) as ann, dialled(HERE, port, HERE_TOO, seconds=60) as eve:
             ann.sendall(b"connect Ann\r\n" + b"say brick\r\n" * 260)
             waits = is_soon(lambda: console.status()["waited"] == "1", SECONDS)
-            longest = seconds_to_say(eve, b"Eve", 60)
+            longest = seconds_to_say(eve, b"Eve", 150)
         return "" if waits and longest < 0.3 else f"{waits}, Eve waited {longest:.2f} s"
 
 

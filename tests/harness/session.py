@@ -9,11 +9,14 @@ WELCOME = re.compile(r"welcome #([0-9]+)")
 
 
 class Session:
-    """The lines that one connection sent and read. It is broken if it ended before its last line was answered."""
+    """The lines that one connection sent and read. It is broken if it ended before its last line was answered. It may
+    be the part of a connection in a later volume: then it goes on with a player, or None, from a version on.
+    """
 
-    def __init__(self):
+    def __init__(self, player=None, begun=None):
         self.sent, self.read = [], []
         self.is_broken = False
+        self.player, self.begun = player, begun
 
 
 class Reply:
@@ -34,10 +37,12 @@ class Reading:
     def __init__(self, session):
         self.session, self.waiting = session, list(session.sent)
         self.replies, self.heard, self.spans, self.faults = [], {}, [], []
-        self.player, self.seen, self.desk = None, 0, None
-        if session.read[:1] != [GREETING] and (session.read or not session.is_broken):
+        self.player, self.seen, self.desk = None, session.begun or 0, None
+        goes_on = session.begun is not None
+        if not goes_on and session.read[:1] != [GREETING] and (session.read or not session.is_broken):
             self.faults.append(f"it is greeted with {session.read[:1]}")
-        for text in session.read[1:]:
+        self.becomes(session.player)
+        for text in session.read[0 if goes_on else 1:]:
             self.take(text)
         self.left = self.waiting[0] if self.waiting else None
         self.becomes(None)

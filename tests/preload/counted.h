@@ -2,10 +2,12 @@
 // fail some.
 //
 // FAILED_CALL is the number of the call that fails, counted from 1, and FAILED_FROM that of the first call from which
-// all fail; a number of 0, or a missing one, fails no call. CALLS_FILE names a file that gets, as the program ends, the
+// all fail; a number of 0, or a missing one, fails no call. ENDING_CALL is the number of the call before which the
+// program is killed. CALLS_FILE names a file that gets, as the program ends, the
 // number of calls, and the kind of the last failed one, or `none`.
 
 #include <errno.h>
+#include <signal.h>
 #include <stdio.h>
 #include <stdlib.h>
 #include <sys/syscall.h>
@@ -13,6 +15,7 @@
 
 static unsigned long failed_call;
 static unsigned long failed_from;
+static unsigned long ending_call;
 static unsigned long calls;
 static const char *failed_kind = "none";
 static int is_counting;
@@ -26,6 +29,7 @@ static unsigned long number_in(const char *name) {
 __attribute__((constructor)) static void begin(void) {
     failed_call = number_in("FAILED_CALL");
     failed_from = number_in("FAILED_FROM");
+    ending_call = number_in("ENDING_CALL");
     is_counting = 1;
 }
 
@@ -52,6 +56,9 @@ static int is_failed(const char *kind, int error) {
         return 0;
     }
     unsigned long call = __atomic_add_fetch(&calls, 1, __ATOMIC_SEQ_CST);
+    if (call == ending_call) {
+        kill(getpid(), SIGKILL);
+    }
     if (call != failed_call && (failed_from == 0 || call < failed_from)) {
         return 0;
     }

@@ -60,6 +60,11 @@ pub enum Keeping<'a> {
         player: &'a str,
         room: &'a str,
     },
+    /// Print a history of the same world but for its numbers, or with `is_map` the old and the new numbers.
+    Compact {
+        file: KeptFile<'a>,
+        is_map: bool,
+    },
     /// Compare the world of the file `old` with that of the file `new`.
     Diff {
         old: KeptFile<'a>,
@@ -263,6 +268,10 @@ fn keeping_in<'a>(alloc: Global, matches: &ArgMatches<'a>) -> Result<Keeping<'a>
         return Err(Unfit::Told(NO_WISH));
     };
     match name {
+        "compact" => Ok(Keeping::Compact {
+            file,
+            is_map: words.get_flag("map"),
+        }),
         "map" => map_in(file, words),
         "survey" => survey_in(alloc, file, words),
         "without" => without_in(alloc, file, words),

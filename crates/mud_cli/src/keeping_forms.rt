@@ -4,7 +4,7 @@ use crate::argument::{Argument, FLAG, NUMBER, OPTION, PLACE, PLACES};
 use crate::form::Form;
 
 // The forms of `mud_keep`.
-pub(crate) static FORMS: [Form<'static>; 9] = [
+pub(crate) static FORMS: [Form<'static>; 10] = [
     Form {
         name: "recover",
         about: "Prints the history that a journal holds, with its end",
@@ -14,6 +14,11 @@ pub(crate) static FORMS: [Form<'static>; 9] = [
         name: "shorten",
         about: "Prints a shorter history of the same world",
         arguments: &[FILE, JOURNAL],
+    },
+    Form {
+        name: "compact",
+        about: "Prints a history of the same world but for its numbers, without those of what is gone",
+        arguments: &[FILE, NUMBERS, JOURNAL],
     },
     Form {
         name: "show",
@@ -83,6 +88,13 @@ const JOURNALS: Argument = Argument {
 const FRONT: Argument = Argument {
     name: "front",
     help: "Only the lines before the first bad one, where the journal is damaged",
+    ..FLAG
+};
+
+// Asks for the numbers instead of the history.
+const NUMBERS: Argument = Argument {
+    name: "map",
+    help: "Prints the old and the new number of each object instead",
     ..FLAG
 };
 

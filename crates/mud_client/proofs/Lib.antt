@@ -2,3 +2,4 @@ mod Leaving
 mod Feeding
 mod Stepping
 pub mod Crosses
+mod Going

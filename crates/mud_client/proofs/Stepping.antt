@@ -10,7 +10,7 @@ use Rattle.mud_hall.specs.Desk.{DeskState, TakesIn, as_guest}
 use Rattle.mud_session.specs.State.{SessionState, DoorState}
 use Rattle.mud_session.specs.Feeds.{Feeds, Nudges}
 use Rattle.mud_session.specs.Laws.{NamesSeen}
-use Rattle.mud_session.specs.Talks.{IsTalk, greeting}
+use Rattle.mud_session.specs.Talks.{Start, fresh, as_begun, IsTalk, greeting}
 use Rattle.mud_session.proofs.Naming.{begins_so, taken_so, nothing_beyond}
 use Rattle.mud_session.proofs.Talking.{talks_go_on}
 use Rattle.mud_client.specs.declared.framing.Framing.{Framing}
@@ -21,7 +21,7 @@ use Rattle.mud_web.specs.declared.fault.Fault.TheVariants.{OutOfMemory, Over, En
 use Rattle.mud_web.specs.Channel.{IfOver}
 use Rattle.mud_client.specs.Framed.{IsNew, Breaks, Frames, framed, last_words, last_close}
 use Rattle.mud_client.specs.Sayings.{AreReplies}
-use Rattle.mud_client.specs.Client.{ClientState, state_of, Stands, IsSound}
+use Rattle.mud_client.specs.Client.{ClientState, state_of, StandsFrom, Stands, IsSound}
 use Rattle.mud_client.specs.Steps.{MatchEnd, IfDone, door_of, IsFed, saying, ends_line, first_line, has_line}
 use Rattle.mud_client.specs.Steps.{Comes, FeedsLine, AnswersFrames, Says, Steps, IsFedAll, CutsOff, LooksFor, Looks}
 use Rattle.mud_client.specs.Steps.{Output, Parts}
@@ -36,8 +36,8 @@ pub begins : (client : ClientState) (desk : DeskState) → IsNew client.framing 
 begins client desk new none stands going out is = record {
   typed = [];
   said = [];
-  talk = subst (IsTalk client.capacity greeting [] [] client.session) (sym is)
-      ((talks_go_on client.capacity greeting).begins client.session desk stands going out);
+  talk = subst (IsTalk client.capacity (fresh greeting) [] [] client.session) (sym is)
+      ((talks_go_on client.capacity (fresh greeting)).begins [] [] client.session desk stands going refl (sym out));
   frames = subst (λ (w : List ℕ). Frames client.framing [] w [] []) (sym none) (frames_new client.framing new);
 }
 
@@ -45,6 +45,7 @@ pub sound_new : (client : ClientState) (desk : DeskState) → IsNew client.frami
     → StandsAfter client.session.terminal [] → client.session.has_ended ≡ false → client.session.out ≡ greeting
     → client.desk ≡ as_guest desk → client.has_ended ≡ false → IsSound client
 sound_new client desk new none stands going out is goes_on = record {
+  start = fresh greeting;
   came = [];
   sent = [];
   stands = begins client desk new none stands going out is;
@@ -54,10 +55,11 @@ sound_new client desk new none stands going out is goes_on = record {
 
 -- ---- what a part of a step leaves
 
-comes_stands : (bytes answered came sent : List ℕ) (old new : ClientState) → Comes bytes answered old new
-    → Stands came sent old → Stands (came ++ bytes) (sent ++ answered) new
-comes_stands bytes answered came sent old new c s =
-    subst (Stands (came ++ bytes) (sent ++ answered)) (sym c.same) (record {
+comes_stands : (start : Start) (bytes answered came sent : List ℕ) (old new : ClientState)
+    → Comes bytes answered old new → StandsFrom start came sent old
+    → StandsFrom start (came ++ bytes) (sent ++ answered) new
+comes_stands start bytes answered came sent old new c s =
+    subst (StandsFrom start (came ++ bytes) (sent ++ answered)) (sym c.same) (record {
       typed = s.typed;
       said = s.said;
       talk = s.talk;
@@ -65,15 +67,15 @@ comes_stands bytes answered came sent old new c s =
           c.reads s.frames;
     })
 
-fed_stands : (came sent : List ℕ) (old new : ClientState) → FeedsLine old new → Stands came sent old
-    → Stands came sent new
-fed_stands came sent old new f s =
+fed_stands : (start : Start) (came sent : List ℕ) (old new : ClientState) → FeedsLine old new
+    → StandsFrom start came sent old → StandsFrom start came sent new
+fed_stands start came sent old new f s =
     let line : List ℕ = first_line old.waiting in
     record {
       typed = s.typed ++ line;
       said = s.said;
-      talk = subst (λ (n : ℕ). IsTalk n greeting (s.typed ++ line) s.said new.session new.desk) (sym f.same.0)
-          ((talks_go_on old.capacity greeting).feeds s.typed s.said line old.session new.session (door_of old)
+      talk = subst (λ (n : ℕ). IsTalk n start (s.typed ++ line) s.said new.session new.desk) (sym f.same.0)
+          ((talks_go_on old.capacity start).feeds s.typed s.said line old.session new.session (door_of old)
           (door_of new) refl s.talk (f.feeds s.typed s.talk.stands));
       frames = subst (λ (x : Framing). Frames x came ((s.typed ++ line) ++ new.waiting) s.said sent) (sym f.same.1)
           (subst (λ (t : List ℕ). Frames old.framing came t s.said sent)
@@ -82,41 +84,42 @@ fed_stands came sent old new f s =
           ∙ sym (append_assoc s.typed line new.waiting)) s.frames);
     }
 
-looked_stands : (came sent : List ℕ) (old new : ClientState) → LooksFor old new → Stands came sent old
-    → Stands came sent new
-looked_stands came sent old new l s = record {
+looked_stands : (start : Start) (came sent : List ℕ) (old new : ClientState) → LooksFor old new
+    → StandsFrom start came sent old → StandsFrom start came sent new
+looked_stands start came sent old new l s = record {
   typed = s.typed;
   said = s.said;
-  talk = subst (λ (x : ClientState). IsTalk x.capacity greeting s.typed s.said new.session new.desk) (sym l.same)
-      ((talks_go_on old.capacity greeting).nudges s.typed s.said old.session new.session (door_of old) (door_of new)
+  talk = subst (λ (x : ClientState). IsTalk x.capacity start s.typed s.said new.session new.desk) (sym l.same)
+      ((talks_go_on old.capacity start).nudges s.typed s.said old.session new.session (door_of old) (door_of new)
       refl s.talk l.nudges);
   frames = subst (λ (x : ClientState). Frames x.framing came (s.typed ++ x.waiting) s.said sent) (sym l.same) s.frames;
 }
 
-silent_stands : (came sent : List ℕ) (client : ClientState) → Stands came sent client
-    → Stands came (sent ++ framed client.framing client.session.out) (saying [] client)
-silent_stands came sent client s = record {
+silent_stands : (start : Start) (came sent : List ℕ) (client : ClientState) → StandsFrom start came sent client
+    → StandsFrom start came (sent ++ framed client.framing client.session.out) (saying [] client)
+silent_stands start came sent client s = record {
   typed = s.typed;
   said = s.said ++ client.session.out;
-  talk = (talks_go_on client.capacity greeting).sends s.typed s.said client.session client.desk s.talk;
+  talk = (talks_go_on client.capacity start).sends s.typed s.said client.session client.desk s.talk;
   frames = frames_more client.framing came (s.typed ++ client.waiting) s.said client.session.out sent s.frames;
 }
 
-said_stands : (came sent : List ℕ) (line : Bool) (old new : ClientState) (out : Output) → Says line old new out
-    → Stands came sent old → Stands came (sent ++ out.text) new
-said_stands came sent line old new out says s =
-    subst (λ (t : List ℕ). Stands came (sent ++ t) new) (sym says.gives)
-    (subst (Stands came (sent ++ framed old.framing old.session.out)) (sym says.same)
-    (silent_stands came sent old s))
+said_stands : (start : Start) (came sent : List ℕ) (line : Bool) (old new : ClientState) (out : Output)
+    → Says line old new out → StandsFrom start came sent old → StandsFrom start came (sent ++ out.text) new
+said_stands start came sent line old new out says s =
+    subst (λ (t : List ℕ). StandsFrom start came (sent ++ t) new) (sym says.gives)
+    (subst (StandsFrom start came (sent ++ framed old.framing old.session.out)) (sym says.same)
+    (silent_stands start came sent old s))
 
 -- ---- the invariant
 
 pub comes_sound : (bytes answered : List ℕ) (old new : ClientState) → Comes bytes answered old new → IsSound old
     → IsSound new
 comes_sound bytes answered old new c i = record {
+  start = i.start;
   came = i.came ++ bytes;
   sent = i.sent ++ answered;
-  stands = comes_stands bytes answered i.came i.sent old new c i.stands;
+  stands = comes_stands i.start bytes answered i.came i.sent old new c i.stands;
   names = subst (λ (x : ClientState). NamesSeen x.session x.desk) (sym c.same) i.names;
   ended = subst (λ (x : ClientState). x.has_ended ≡ x.session.has_ended) (sym c.same) i.ended;
 }
@@ -128,9 +131,10 @@ fed_names old new f i =
 
 pub fed_sound : (old new : ClientState) → FeedsLine old new → old.has_ended ≡ false → IsSound old → IsSound new
 fed_sound old new f going i = record {
+  start = i.start;
   came = i.came;
   sent = i.sent;
-  stands = fed_stands i.came i.sent old new f i.stands;
+  stands = fed_stands i.start i.came i.sent old new f i.stands;
   names = fed_names old new f i;
   ended = f.ended ∙ ap (λ (b : Bool). b || new.session.has_ended) going;
 }
@@ -141,9 +145,10 @@ looked_names old new l i =
 
 pub looked_sound : (old new : ClientState) → LooksFor old new → IsSound old → IsSound new
 looked_sound old new l i = record {
+  start = i.start;
   came = i.came;
   sent = i.sent;
-  stands = looked_stands i.came i.sent old new l i.stands;
+  stands = looked_stands i.start i.came i.sent old new l i.stands;
   names = looked_names old new l i;
   ended = ap (λ (x : ClientState). x.has_ended) l.same ∙ i.ended
       ∙ sym (ap (λ (s : SessionState). s.has_ended) l.nudges.is);
@@ -151,9 +156,10 @@ looked_sound old new l i = record {
 
 pub silent_sound : (client : ClientState) → IsSound client → IsSound (saying [] client)
 silent_sound client i = record {
+  start = i.start;
   came = i.came;
   sent = i.sent ++ framed client.framing client.session.out;
-  stands = silent_stands i.came i.sent client i.stands;
+  stands = silent_stands i.start i.came i.sent client i.stands;
   names = taken_so client.session (saying [] client).session client.desk i.names refl;
   ended = i.ended;
 }
@@ -216,31 +222,32 @@ line_step bytes replies line old mid fed new out comes none feeds has says =
       gives = inr (none, fed, feeds, subst (λ (b : Bool). Says b fed new out) has said);
     }) (λ e is over. absurd over) (λ undone. undone) says
 
-given_stands : (came sent answered : List ℕ) (mid new : ClientState) (out : Output)
+given_stands : (start : Start) (came sent answered : List ℕ) (mid new : ClientState) (out : Output)
     → AnswersFrames answered mid new out
     ⊎ ((answered ≡ []) × (fed : ClientState) × FeedsLine mid fed × Says (has_line mid.waiting) fed new out)
-    → Stands came (sent ++ answered) mid → Stands came (sent ++ out.text) new
-given_stands came sent answered mid new out (inl a) s =
-    subst (λ (t : List ℕ). Stands came (sent ++ t) new) (sym a.gives)
-    (subst (Stands came (sent ++ answered)) (sym a.same) s)
-given_stands came sent answered mid new out (inr (none, fed, feeds, says)) s =
-    said_stands came sent _ fed new out says (fed_stands came sent mid fed feeds
-    (subst (λ (t : List ℕ). Stands came t mid) (ap (λ (l : List ℕ). sent ++ l) none ∙ append-nil sent) s))
+    → StandsFrom start came (sent ++ answered) mid → StandsFrom start came (sent ++ out.text) new
+given_stands start came sent answered mid new out (inl a) s =
+    subst (λ (t : List ℕ). StandsFrom start came (sent ++ t) new) (sym a.gives)
+    (subst (StandsFrom start came (sent ++ answered)) (sym a.same) s)
+given_stands start came sent answered mid new out (inr (none, fed, feeds, says)) s =
+    said_stands start came sent _ fed new out says (fed_stands start came sent mid fed feeds
+    (subst (λ (t : List ℕ). StandsFrom start came t mid) (ap (λ (l : List ℕ). sent ++ l) none ∙ append-nil sent) s))
 
-pub step_stands : (bytes came sent : List ℕ) (old new : ClientState) (out : Output)
+pub step_stands : (start : Start) (bytes came sent : List ℕ) (old new : ClientState) (out : Output)
     → MatchEnd out.end (Steps bytes old new out) (λ error. CutsOff bytes error old new out) (out.text ≡ [])
-    → Stands came sent old → IfDone out.end (Stands (came ++ bytes) (sent ++ out.text) new)
-step_stands bytes came sent old new out m s =
+    → StandsFrom start came sent old → IfDone out.end (StandsFrom start (came ++ bytes) (sent ++ out.text) new)
+step_stands start bytes came sent old new out m s =
     match_end out.end
-    (λ step. given_stands (came ++ bytes) sent step.answered step.mid new out step.gives
-    (comes_stands bytes step.answered came sent old step.mid step.comes s)) (λ e is f. tt) (λ r. tt) m
+    (λ step. given_stands start (came ++ bytes) sent step.answered step.mid new out step.gives
+    (comes_stands start bytes step.answered came sent old step.mid step.comes s)) (λ e is f. tt) (λ r. tt) m
 
-pub look_stands : (came sent : List ℕ) (old new : ClientState) (out : Output)
-    → MatchEnd out.end (Looks old new out) (λ error. ⊥) (out.text ≡ []) → Stands came sent old
-    → IfDone out.end (Stands came (sent ++ out.text) new)
-look_stands came sent old new out m s =
+pub look_stands : (start : Start) (came sent : List ℕ) (old new : ClientState) (out : Output)
+    → MatchEnd out.end (Looks old new out) (λ error. ⊥) (out.text ≡ []) → StandsFrom start came sent old
+    → IfDone out.end (StandsFrom start came (sent ++ out.text) new)
+look_stands start came sent old new out m s =
     match_end out.end
-    (λ looks. said_stands came sent false looks.0 new out looks.2 (looked_stands came sent old looks.0 looks.1 s))
+    (λ looks. said_stands start came sent false looks.0 new out looks.2
+    (looked_stands start came sent old looks.0 looks.1 s))
     (λ e is f. tt) (λ r. tt) m
 
 -- ---- in the code's terms
@@ -363,7 +370,7 @@ said_end P R F end given is (inr none) p =
     subst (λ (e : Option End). MatchEnd e P F R) (sym (is ∙ none)) p
 
 -- the last output
-said_so : (none said words : List ℕ) → none ≡ [] → (said ≡ none ++ words) ⊎ (said ≡ none)
+pub said_so : (none said words : List ℕ) → none ≡ [] → (said ≡ none ++ words) ⊎ (said ≡ none)
     → (said ≡ words) ⊎ (said ≡ [])
 said_so none said words nothing (inl is) = inl (is ∙ ap (λ (l : List ℕ). l ++ words) nothing)
 said_so none said words nothing (inr is) = inr (is ∙ nothing)

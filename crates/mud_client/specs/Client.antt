@@ -3,7 +3,7 @@ use Rattle.std.specs.Prelude.{◌≡◌, ℕ, Bool, List, ◌++◌}
 use Rattle.mud_hall.specs.Desk.{DeskState}
 use Rattle.mud_session.specs.State.{SessionState}
 use Rattle.mud_session.specs.Laws.{NamesSeen}
-use Rattle.mud_session.specs.Talks.{IsTalk, greeting}
+use Rattle.mud_session.specs.Talks.{Start, fresh, IsTalk, greeting}
 use Rattle.mud_client.specs.declared.framing.Framing.{Framing}
 use Rattle.mud_client.specs.Framed.{Frames}
 
@@ -20,20 +20,26 @@ abbrev pub state_of : ℕ → Framing → List ℕ → SessionState → DeskStat
 state_of n f waiting s d has_ended =
     record { capacity = n; framing = f; waiting = waiting; session = s; desk = d; has_ended = has_ended }
 
--- a client that received these bytes and sent those. Its session received exactly the typed text, up to the waiting
--- part. Its greeting and the text of the turns played at its desk are the output sent, framed, with the replies to the
--- frames received, and the output still to be sent
-pub record Stands (came sent : List ℕ) (client : ClientState) : Type 0 where
+-- a client that began so at its hall, and in all received these bytes and sent those. Its session received exactly the
+-- typed text, up to the waiting part. Its text is its greeting and that of the turns played at its desks, at one hall
+-- after another. The output sent is that text, framed, with the replies to the frames received, up to the output still
+-- to be sent
+pub record StandsFrom (start : Start) (came sent : List ℕ) (client : ClientState) : Type 0 where
   pub typed : List ℕ
   pub said : List ℕ
-  pub talk : IsTalk client.capacity greeting typed said client.session client.desk
+  pub talk : IsTalk client.capacity start typed said client.session client.desk
   pub frames : Frames client.framing came (typed ++ client.waiting) said sent
+
+-- the client of a guest, at its first hall
+abbrev pub Stands : (came sent : List ℕ) → ClientState → Type 0
+Stands = StandsFrom (fresh greeting)
 
 -- it received some bytes, and names no version beyond the entries that its desk has seen; it has ended if its session
 -- has
 pub record IsSound (client : ClientState) : Type 0 where
+  pub start : Start
   pub came : List ℕ
   pub sent : List ℕ
-  pub stands : Stands came sent client
+  pub stands : StandsFrom start came sent client
   pub names : NamesSeen client.session client.desk
   pub ended : client.has_ended ≡ client.session.has_ended

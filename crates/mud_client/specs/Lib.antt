@@ -3,3 +3,4 @@ pub mod Sayings
 pub mod Client
 pub mod Steps
 pub mod inner
+pub mod Resting

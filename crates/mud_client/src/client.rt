@@ -5,7 +5,8 @@ ghost use Rattle.mud_search.specs.declared.limits.TheConstants.{MOST_WORKERS};
 ghost use Rattle.std.specs.Prelude.{◌⊎◌};
 ghost use Rattle.mud_hall.specs.Desk.{as_guest};
 ghost use Rattle.mud_client.specs.Framed.{IsNew, last_words};
-ghost use Rattle.mud_client.specs.Client.{Stands};
+ghost use Rattle.mud_session.specs.Talks.{Start};
+ghost use Rattle.mud_client.specs.Client.{Stands, StandsFrom};
 ghost use Rattle.mud_client.specs.Steps.{MatchEnd, IfDone, output_of, Steps, CutsOff, Looks, Parts, Reports};
 
 use crate::framing::Framing;
@@ -22,7 +23,7 @@ use std::sync::Wait;
 use std::thread::Threads;
 
 /// A session at its desk, the framing of its bytes, and the typed text that waits for an answer. Unless the client has
-/// ended, its output is a prefix of its greeting and the text of the turns played at its desk, framed.
+/// ended, its output is a prefix of its greeting and the text of the turns played at its desks, framed.
 #[derive(Drop)]
 pub struct Client<J: HallName> {
     pub(crate) alloc: Global,
@@ -94,8 +95,8 @@ impl<J: HallName> Client<J> {
         requires { workers ≤ MOST_WORKERS }
         ensures step { MatchEnd result.1.end (Steps bytes.now self result.0 (output_of result.1))
             (λ error. CutsOff bytes.now error self result.0 (output_of result.1)) (result.1.text.text.items ≡ []) }
-        ensures stands { (came sent : List ℕ) → Stands came sent self → IfDone result.1.end
-            (Stands (came ++ bytes.now) (sent ++ result.1.text.text.items) result.0) }
+        ensures stands { (start : Start) (came sent : List ℕ) → StandsFrom start came sent self → IfDone result.1.end
+            (StandsFrom start (came ++ bytes.now) (sent ++ result.1.text.text.items) result.0) }
         ensures earlier { self.has_ended ≡ true → result.1.end ≡ Some End.Earlier }
         ensures reports { Reports (length self.desk.calls) result.0 (output_of result.1) }
     {
@@ -126,8 +127,8 @@ impl<J: HallName> Client<J> {
         requires { workers ≤ MOST_WORKERS }
         ensures step { MatchEnd result.1.end (Looks self result.0 (output_of result.1)) (λ error. ⊥)
             (result.1.text.text.items ≡ []) }
-        ensures stands { (came sent : List ℕ) → Stands came sent self → IfDone result.1.end
-            (Stands came (sent ++ result.1.text.text.items) result.0) }
+        ensures stands { (start : Start) (came sent : List ℕ) → StandsFrom start came sent self → IfDone result.1.end
+            (StandsFrom start came (sent ++ result.1.text.text.items) result.0) }
         ensures earlier { self.has_ended ≡ true → result.1.end ≡ Some End.Earlier }
         ensures reports { Reports (length self.desk.calls) result.0 (output_of result.1) }
     {

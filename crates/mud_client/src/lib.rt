@@ -16,8 +16,10 @@
 mod client;
 mod framing;
 mod outgoing;
+mod resting;
 mod step;
 
 pub use client::Client;
 pub use framing::Framing;
 pub use outgoing::{End, Outgoing, Sayings};
+pub use resting::RestingClient;

@@ -19,6 +19,7 @@ pub data Asked : Type 0 where
   Stop : Asked
   StopIn : ℕ → Asked
   Stay : Asked
+  Volume : Asked
   Reopen : Asked
   Help : Asked
 
@@ -34,6 +35,7 @@ asked_of (Order.Tell text) = Tell text.now
 asked_of Order.Stop = Stop
 asked_of (Order.StopIn n) = StopIn n
 asked_of Order.Stay = Stay
+asked_of Order.Volume = Volume
 asked_of Order.Reopen = Reopen
 asked_of Order.Help = Help
 
@@ -63,6 +65,7 @@ asked_alone word = row_of word (
     ∷ (codes "bans", Bans)
     ∷ (codes "stop", Stop)
     ∷ (codes "stay", Stay)
+    ∷ (codes "volume", Volume)
     ∷ (codes "reopen", Reopen)
     ∷ (codes "help", Help)
     ∷ [])

@@ -28,6 +28,8 @@ pub enum Order<'a> {
     StopIn(u32),
     /// Cancel an announced stop.
     Stay,
+    /// Turn to the next volume of the journal.
+    Volume,
     /// Open the log file again.
     Reopen,
     /// List the orders.
@@ -35,7 +37,7 @@ pub enum Order<'a> {
 }
 
 /// The lines of `help`, one for each order.
-pub const HELP: [&str; 12] = [
+pub const HELP: [&str; 13] = [
     "status            prints the status of the server",
     "sessions          lists the sessions",
     "end N             ends session N",
@@ -46,6 +48,7 @@ pub const HELP: [&str; 12] = [
     "stop              stops the server",
     "stop in N         announces a stop, and stops the server in N seconds",
     "stay              cancels that stop",
+    "volume            turns to the next volume of the journal",
     "reopen            opens the log file again",
     "help              prints these lines",
 ];
@@ -72,6 +75,7 @@ fn alone(word: &str) -> Option<Order<'static>>
         "bans" => Some(Order::Bans),
         "stop" => Some(Order::Stop),
         "stay" => Some(Order::Stay),
+        "volume" => Some(Order::Volume),
         "reopen" => Some(Order::Reopen),
         "help" => Some(Order::Help),
         _ => None,

@@ -76,7 +76,7 @@ impl AddressMeters {
         self.meters.lock(rt).lines.take(now, 1)
     }
 
-    /// Counts a change that was made. A drained one leaves no token.
+    /// Counts a change that was made. With `is_drained` it takes all tokens, so that the next change waits.
     pub(crate) fn spend_change<R: Wait>(&self, rt: &R, now: Duration, is_drained: bool) {
         let mut meters = self.meters.lock(rt);
         meters.changes.owe(1);

@@ -46,6 +46,8 @@ pub struct Control {
     has_bans: AtomicBool,
     countdown: Mutex<Option<Countdown>>,
     is_counting: AtomicBool,
+    // True once the host requested the next volume.
+    wants_volume: AtomicBool,
 }
 
 impl<'s> Hosting<'s> {
@@ -82,7 +84,18 @@ impl Control {
             has_bans: AtomicBool::new(has_bans),
             countdown: Mutex::new(None),
             is_counting: AtomicBool::new(false),
+            wants_volume: AtomicBool::new(false),
         })
+    }
+
+    /// Requests the next volume.
+    pub fn request_volume(&self) {
+        self.wants_volume.store(true, Ordering::SeqCst);
+    }
+
+    /// Returns whether the next volume was requested since the last call.
+    pub fn take_request(&self) -> bool {
+        self.wants_volume.swap(false, Ordering::SeqCst)
     }
 
     /// Returns whether an address is banned.

@@ -154,6 +154,16 @@ impl Roster {
         }
     }
 
+    /// Makes all sessions rest, and wakes their notice threads.
+    pub fn begin_rest<R: Wait>(&self, rt: &R) {
+        for place in &self.list {
+            if let Some(member) = &*place.lock(rt) {
+                member.socket.begin_rest();
+                member.unparker.unpark();
+            }
+        }
+    }
+
     /// Shuts the sockets of all sessions, for this reason.
     pub fn shut_all<R: Wait>(&self, rt: &R, ending: Ending) {
         for place in &self.list {

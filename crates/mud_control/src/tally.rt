@@ -50,6 +50,13 @@ pub struct Tally {
     changes: AtomicU64,
     synced: AtomicU64,
     objects: AtomicU64,
+    volume: AtomicU64,
+    // The number of changes that the world takes by itself, if it takes most of a volume; otherwise 0.
+    taken: AtomicU64,
+    turns: AtomicU64,
+    calls_off: AtomicU64,
+    // The milliseconds of the last turn's pause.
+    pause: AtomicU64,
     has_failed: AtomicBool,
     // The second in which the log last named a refused connection, plus one; 0 means never.
     logged: AtomicU64,
@@ -71,6 +78,11 @@ impl Tally {
             changes: AtomicU64::new(0),
             synced: AtomicU64::new(0),
             objects: AtomicU64::new(FIRST_OBJECTS),
+            volume: AtomicU64::new(1),
+            taken: AtomicU64::new(0),
+            turns: AtomicU64::new(0),
+            calls_off: AtomicU64::new(0),
+            pause: AtomicU64::new(0),
             has_failed: AtomicBool::new(false),
             logged: AtomicU64::new(0),
         }
@@ -121,8 +133,32 @@ impl Tally {
         self.note_changes(changes);
     }
 
-    /// Records that the history has at least this many changes.
-    pub fn note_changes(&self, changes: u64) {
+    /// Records that the volume with this number goes on, or begins, with this many changes.
+    pub fn begin_volume(&self, volume: u32, changes: u64) {
+        self.volume.store(u64::from(volume), Ordering::Relaxed);
+        self.changes.store(changes, Ordering::Relaxed);
+    }
+
+    /// Counts a turn to the next volume, with its pause.
+    pub fn count_turn(&self, pause: Duration) {
+        let millis = u64::try_from(pause.as_millis()).unwrap_or(u64::MAX);
+        self.pause.store(millis, Ordering::Relaxed);
+        self.taken.store(0, Ordering::Relaxed);
+        self.turns.fetch_add(1, Ordering::Relaxed);
+    }
+
+    /// Counts a turn that was called off.
+    pub fn count_call_off(&self) {
+        self.calls_off.fetch_add(1, Ordering::Relaxed);
+    }
+
+    /// Records that the world takes this many changes of a volume by itself. Returns whether that was recorded already.
+    pub fn note_large_world(&self, changes: u64) -> bool {
+        self.taken.swap(changes, Ordering::Relaxed) != 0
+    }
+
+    // Records that the history has at least this many changes.
+    fn note_changes(&self, changes: u64) {
         self.changes.fetch_max(changes, Ordering::Relaxed);
     }
 
@@ -179,6 +215,31 @@ impl Tally {
     /// Returns the number of objects in the world.
     pub fn objects(&self) -> u64 {
         self.objects.load(Ordering::Relaxed)
+    }
+
+    /// Returns the number of the volume.
+    pub fn volume(&self) -> u64 {
+        self.volume.load(Ordering::Relaxed)
+    }
+
+    /// Returns the number of changes that the world takes by itself, if it takes most of a volume; otherwise 0.
+    pub fn taken(&self) -> u64 {
+        self.taken.load(Ordering::Relaxed)
+    }
+
+    /// Returns the number of turns.
+    pub fn turns(&self) -> u64 {
+        self.turns.load(Ordering::Relaxed)
+    }
+
+    /// Returns the number of turns that were called off.
+    pub fn calls_off(&self) -> u64 {
+        self.calls_off.load(Ordering::Relaxed)
+    }
+
+    /// Returns the milliseconds of the last turn's pause.
+    pub fn pause_millis(&self) -> u64 {
+        self.pause.load(Ordering::Relaxed)
     }
 
     /// Returns whether the journal has failed.

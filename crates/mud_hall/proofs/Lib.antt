@@ -18,3 +18,4 @@ pub mod Journeys
 pub mod Guiding
 pub mod Sample
 pub mod Coming
+mod Sitting

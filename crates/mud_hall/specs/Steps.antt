@@ -1,6 +1,6 @@
 -- A hall: one history, many desks, and their steps.
 use Rattle.std.specs.Prelude.{◌≡◌, ℕ, ◌+◌, ◌≤◌, ◌⊎◌, nat_eq, if◌then◌else◌}
-use Rattle.std.specs.Prelude.{List, [], ◌∷◌, ◌++◌, length, Option, Some, None}
+use Rattle.std.specs.Prelude.{List, [], ◌∷◌, ◌++◌, length, Option, Some, None, Bool, codes}
 use Rattle.std.specs.List.{AllByRecursion}
 use mathlib.Core.List.{IsPrefix}
 use Rattle.mud_words.specs.Parse.{parse_of}
@@ -34,6 +34,26 @@ abbrev pub PerformsAll : ℕ → DeskState → List Call → DeskState → Type 
 PerformsAll capacity was [] is = is ≡ was
 PerformsAll capacity was (call ∷ calls) is =
     (now : DeskState) × Performs capacity was call now × PerformsAll capacity now calls is
+
+-- ---- a player at another hall
+
+-- the line by which a player with this name connects
+abbrev pub connect_text : List ℕ → List ℕ
+connect_text name = codes "connect \"" ++ name ++ codes "\""
+
+-- the call makes the desk a guest's, or connects a player
+abbrev pub IsSeating : Call → Type 0
+IsSeating Guest = Unit {0}
+IsSeating (Act line reply) = (name : List ℕ) × (line ≡ connect_text name)
+IsSeating other = ⊥
+
+-- by such calls the desk became this player's, or a guest's if it does not sit; it has no notices
+pub record IsSeated (capacity : ℕ) (player : Option ℕ) (sits : Bool) (old new : DeskState) : Type 0 where
+  pub calls : List Call
+  pub performs : PerformsAll capacity old calls new
+  pub only : AllByRecursion IsSeating calls
+  pub is : new.player ≡ (if sits then player else None)
+  pub told : new.told ≡ []
 
 -- ---- the initial hall
 

@@ -1,3 +1,4 @@
 pub mod CheckFaults
 pub mod Desks
+pub mod Seating
 pub mod Answers

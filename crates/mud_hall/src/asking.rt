@@ -68,8 +68,8 @@ impl<J: HallName> Desk<J> {
         self.replica.world()
     }
 
-    // Returns the player of this desk, who is one of that world, or `None` for a guest.
-    pub(crate) fn player(&self) -> Option<u32>
+    /// Returns the player of this desk, who is one of that world, or `None` for a guest.
+    pub fn player(&self) -> Option<u32>
         ensures player { result ≡ self.now.state.player }
         ensures seated { IfSome self.now.state.player
             (λ p. IsTrue (is_player (world_after self.now.state.seen) p)) }

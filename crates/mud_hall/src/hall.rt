@@ -1,7 +1,7 @@
 //! The hall: many desks over one history.
 
 ghost use Rattle.std.specs.Prelude.{◌≡◌, ◌≢◌, ◌≤◌, ◌<◌, ◌⊎◌, [], length, max, IfOk, IfErr, OnOk};
-ghost use Rattle.std.specs.Prelude.{Some, IfSome, IsTrue};
+ghost use Rattle.std.specs.Prelude.{Some, IfSome, IsTrue, true, List, ℕ, string_bytes};
 ghost use Rattle.std.specs.Thread.{IsSync};
 ghost use Rattle.mud_world.specs.State.{is_player};
 ghost use Rattle.mud_rules.specs.inner.Outcome.{IsJourney};
@@ -15,8 +15,9 @@ ghost use Rattle.mud_hall.specs.Desk.{IsNew, TakesIn, pending};
 ghost use Rattle.mud_hall.specs.Replies.{Failed, reply_shown, Acts};
 ghost use Rattle.mud_hall.specs.Answers.{answer_shown, Answers};
 ghost use Rattle.mud_hall.specs.NewHall.{Begun, IsLoadFault};
-ghost use Rattle.mud_hall.specs.Steps.{AreLoadable};
+ghost use Rattle.mud_hall.specs.Steps.{AreLoadable, IsSeated, connect_text};
 ghost use Rattle.mud_hall.specs.inner.Desks.{Travels};
+ghost use Rattle.mud_hall.specs.inner.Seating.{Connects};
 
 use crate::desk::Desk;
 use crate::fault::{Fault, LoadFault};
@@ -30,7 +31,7 @@ use mud_roads::Traveller;
 use mud_row::{FillFault, Pass, Replica, Row};
 use mud_rules::Journey;
 use mud_search::Gate;
-use mud_words::Parsed;
+use mud_words::{Parsed, parse};
 use mud_world::World;
 use std::alloc::{AllocError, Global};
 use std::hint::spin_loop;
@@ -264,6 +265,50 @@ impl<J: HallName> Hall<J> {
         if let Some(mut fresh) = self.fresh.try_lock() {
             fresh.follow(&self.row);
         }
+    }
+
+    /// Makes the desk this player's, or a guest's if there is none: a guest's desk acts on `connect` with the player's
+    /// first name. Returns whether it is the player's then; if it is not, it is a guest's.
+    pub fn sit<R: Wait>(&self, rt: &R, desk: &mut Desk<J>, player: Option<u32>) -> bool
+        ensures { IsSeated (length J.cells) player result desk.old.state desk.new.state }
+    {
+        desk.guest();
+        let Some(player) = player else {
+            return true;
+        };
+        if self.connect(rt, desk, player) {
+            return true;
+        }
+        desk.guest();
+        false
+    }
+
+    // Makes the desk act on the line by which this player connects. Returns whether it is the player's then. If memory
+    // lacks, the desk does not act.
+    fn connect<R: Wait>(&self, rt: &R, desk: &mut Desk<J>, player: u32) -> bool
+        ensures acts { Connects (length J.cells) desk.old.state desk.new.state }
+        ensures sits { result ≡ true → desk.new.state.player ≡ Some player }
+    {
+        let Some(line) = self.connect_line(desk, player) else {
+            return false;
+        };
+        let Ok(said) = parse(self.alloc, line.as_str()) else {
+            return false;
+        };
+        let _ = self.act(rt, desk, &said);
+        match desk.player() {
+            Some(seated) => seated == player,
+            None => false,
+        }
+    }
+
+    // Returns the line by which a player connects.
+    fn connect_line(&self, desk: &Desk<J>, player: u32) -> Option<String>
+        ensures { IfSome result (λ line. (name : List ℕ) × (string_bytes line ≡ connect_text name)) }
+    {
+        let record = desk.replica.world().get(player)?;
+        let name = record.names.list().first()?.as_str();
+        format!(in self.alloc; "connect \"{name}\"").ok()
     }
 
     /// Applies all entries, and then acts on a line in the resulting world. A change becomes the next entry of the

@@ -1,13 +1,14 @@
 //! `mud_keep`: recovers, compacts, shows, draws, surveys and compares the histories of worlds.
 //!
 //! `mud_keep recover JOURNAL` prints the history in a journal, `mud_keep shorten HISTORY` a shorter one of the same
-//! world, `mud_keep show HISTORY` the world as a table, and `mud_keep map HISTORY [PROOF]` its rooms and exits as a
-//! graph. `mud_keep survey HISTORY [PLAYER..]` prints what players can't reach, `mud_keep diff OLD NEW` the differences
-//! of two worlds, and `mud_keep chain OLD NEW` whether the new history continues the old one. `mud_keep without HISTORY
-//! CHANGE..` prints the history without some of its changes, and `mud_keep lines HISTORY [ROOM..]` the lines that build
-//! its world or a part of it. With `--journal` the file is a journal instead of a history. Notes go to standard error.
-//! The exit status is 0 if there is a result, or 2 if not; `diff` exits with 1 if the worlds differ, and `chain` if the
-//! new history does not continue the old one. docs/KEEPING.md has the lines.
+//! world, and `mud_keep compact HISTORY` one of the same world but for its numbers. `mud_keep show HISTORY` prints the
+//! world as a table, and `mud_keep map HISTORY [PROOF]` its rooms and exits as a graph. `mud_keep survey HISTORY
+//! [PLAYER..]` prints what players can't reach, `mud_keep diff OLD NEW` the differences of two worlds, and `mud_keep
+//! chain OLD NEW` whether the new history continues the old one. `mud_keep without HISTORY CHANGE..` prints the history
+//! without some of its changes, and `mud_keep lines HISTORY [ROOM..]` the lines that build its world or a part of it.
+//! With `--journal` the file is a journal instead of a history. Notes go to standard error. The exit status is 0 if
+//! there is a result, or 2 if not; `diff` exits with 1 if the worlds differ, and `chain` if the new history does not
+//! continue the old one. docs/KEEPING.md has the lines.
 #![tactic(auto)]
 
 mod bench;
@@ -19,7 +20,7 @@ mod unkept;
 
 use crate::bench::{chain, diff, lines, part_lines, proof, survey, without, without_from};
 use crate::printing::tell_unreadable;
-use crate::texts::{map, picture, text};
+use crate::texts::{compact, map, picture, text};
 use crate::unkept::Unkept;
 use mud_cli::{CommandFault, Keeping, keeping_of, show, words_of};
 use mud_lines::Start;
@@ -36,6 +37,7 @@ fn main(rt: HostRuntime) -> ExitCode {
 fn run(rt: &HostRuntime, words: &[String]) -> ExitCode {
     match keeping_of(rt.alloc(), words) {
         Ok(Keeping::Text { wish, file }) => text(rt, wish, file),
+        Ok(Keeping::Compact { file, is_map }) => compact(rt, file, is_map),
         Ok(Keeping::Map { file, proof }) => map(rt, file, proof),
         Ok(Keeping::Picture { file, is_graph }) => picture(rt, file, is_graph),
         Ok(

@@ -9,6 +9,7 @@ use mud_compact::{
 };
 use mud_map::{map_of, mapped_with};
 use mud_picture::{PictureForm, picture_of};
+use mud_renumber::Compacted;
 use std::alloc::Global;
 use std::process::ExitCode;
 
@@ -41,6 +42,33 @@ pub fn text(rt: &HostRuntime, wish: Wish, file: KeptFile<'_>) -> ExitCode {
         Ok(answer) => print_answer(rt, &answer),
         Err(fault) => tell_unreadable(rt, Unkept::of_file(fault)),
     }
+}
+
+/// Prints a history of the same world but for its numbers, or with `is_map` the old and the new numbers. Returns the
+/// exit status.
+pub fn compact(rt: &HostRuntime, file: KeptFile<'_>, is_map: bool) -> ExitCode {
+    let bytes = match read_input(rt, file.name) {
+        Ok(bytes) => bytes,
+        Err(unkept) => return tell_unreadable(rt, unkept),
+    };
+    match mud_renumber::compact(rt.alloc(), kind_of(file), &bytes) {
+        Ok(found) if is_map => print_text(rt, found.map.as_bytes(), found.torn),
+        Ok(found) => print_compacted(rt, &found),
+        Err(fault) => tell_unreadable(rt, Unkept::of_file(fault)),
+    }
+}
+
+// Prints the history, and to standard error how many numbers it gives. Returns the exit status.
+fn print_compacted(rt: &HostRuntime, found: &Compacted) -> ExitCode {
+    let status = print_text(rt, found.text.as_bytes(), found.torn);
+    if status == ExitCode::SUCCESS {
+        let Compacted { before, after, .. } = found;
+        let _ = eprintln!(rt; "numbers: {before} before, {after} after");
+        let _ = eprintln!(rt;
+            "versions begin anew: check older certificates with the older history"
+        );
+    }
+    status
 }
 
 /// Prints a map. Returns the exit status.

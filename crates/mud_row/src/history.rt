@@ -13,7 +13,7 @@ ghost use Rattle.mud_row.specs.Known.{lines_after};
 use crate::pass::Pass;
 use crate::row::Row;
 use crate::writing::{write_line, write_text};
-use mud_chron::ChronFault;
+use mud_chron::{ChronFault, Entry};
 use mud_world::World;
 use std::alloc::{AllocError, Global};
 use std::marker::Model;
@@ -80,6 +80,14 @@ impl History {
         write_text(alloc, &self.row, &mut self.pass, out)
     }
 
+    /// Returns copies of the entries. The history is unchanged. The only error is out of memory.
+    pub fn entries(&mut self, alloc: Global) -> Result<Vec<Entry>, AllocError>
+        ensures same { self.new ≡ self.old }
+        ensures entries { IfOk result (λ v. v.items ≡ self.old) }
+    {
+        entries_known(alloc, &self.row, &mut self.pass)
+    }
+
     /// Replays the entries, like `mud_chron::replay`: `BadChange` names the first entry whose change is illegal where
     /// it occurs, and the only other error is out of memory. The history is unchanged.
     pub fn replay(&mut self, alloc: Global) -> Result<World, ChronFault>
@@ -91,6 +99,22 @@ impl History {
     {
         replay_known(alloc, &self.row, &mut self.pass)
     }
+}
+
+// Returns copies of the entries that the pass knows.
+fn entries_known(alloc: Global, row: &Row, pass: &mut Pass) -> Result<Vec<Entry>, AllocError>
+    requires { pass.old.row ≡ row.now }
+    ensures same { pass.new ≡ pass.old }
+    ensures entries { IfOk result (λ v. v.items ≡ pass.old.list) }
+{
+    let mut entries = Vec::with_capacity(alloc, pass.known() as usize)?;
+    for n in 0..pass.known() {
+        let Some(entry) = row.entry(pass, n + 1) else {
+            unreachable!();
+        };
+        entries.push(entry.copy(alloc)?)?;
+    }
+    Ok(entries)
 }
 
 // Replays the entries that the pass knows.

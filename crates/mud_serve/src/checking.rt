@@ -7,9 +7,9 @@ use crate::serving::{bind, doors, go_on_from, load_entries, tell_torn};
 use crate::stop::Stop;
 use mud_chron::Entry;
 use mud_cli::{ChosenRates, Listening, version};
-use mud_journal::find_journal;
 use mud_server::try_entries;
-use std::fs::{self, File};
+use mud_shelf::{Shelf, find_volume, folder_of, latest_volume};
+use std::fs::File;
 use std::io::Print;
 use std::net::{Net, TcpListener, TcpStream};
 use std::rt::{Files, Runtime};
@@ -97,7 +97,7 @@ fn say_files<R: Print>(rt: &R, listening: Listening<'_>) -> Result<(), Stop> {
     say_file(rt, "control", listening.control)
 }
 
-// Returns the entries that a server would continue. It does not make a journal.
+// Returns the entries that a server would continue: those of the last volume. It does not make a journal.
 fn entries_of<R: Runtime + Files<File = File> + AllocGlobal>(
     rt: &R,
     listening: Listening<'_>,
@@ -105,12 +105,16 @@ fn entries_of<R: Runtime + Files<File = File> + AllocGlobal>(
     let Some(name) = listening.journal else {
         return load_entries(rt, listening.load);
     };
-    if let Ok(false) = fs::exists(rt, name) {
+    let Ok((folder, journal)) = folder_of(rt, name) else {
+        return Err(Stop::OutOfMemory);
+    };
+    let names = folder.names(journal).map_err(Stop::of_opening)?;
+    if latest_volume(journal, &names).is_none() {
         return load_entries(rt, listening.load);
     }
-    let (_, had, torn) = find_journal(rt, name).map_err(Stop::of_opening)?;
-    tell_torn(rt, torn);
-    go_on_from(rt, listening.load, had)
+    let found = find_volume(rt.alloc(), &folder, journal).map_err(Stop::of_opening)?;
+    tell_torn(rt, found.torn);
+    go_on_from(rt, listening.load, found.entries)
 }
 
 /// Prints what a server would do. It reads the files and binds the ports, but changes nothing. The last line is the

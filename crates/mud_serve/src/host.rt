@@ -26,6 +26,8 @@ pub(crate) struct About {
     pub(crate) capacity: u32,
     /// The greatest number of sessions.
     pub(crate) sessions: u32,
+    /// True if it keeps its history in a journal.
+    pub(crate) has_journal: bool,
     /// The file of its bans, if they are kept.
     pub(crate) bans: Option<String>,
     /// Its log file, if it has one.
@@ -138,6 +140,11 @@ impl<R: AllocGlobal + Wait + Clock> Host<R> {
             lines: tally.lines(),
             made: tally.made(),
             waited: tally.waited(),
+            volume: tally.volume(),
+            taken: tally.taken(),
+            turns: tally.turns(),
+            calls_off: tally.calls_off(),
+            pause_millis: tally.pause_millis(),
         }
     }
 
@@ -205,6 +212,15 @@ impl<R: AllocGlobal + Wait + Clock> Host<R> {
             return Ok(());
         }
         self.refuse("no stop was announced", "")
+    }
+
+    // Requests the next volume, if there is a journal.
+    fn request_volume(&self) -> Result<(), Refused> {
+        if !self.about.has_journal {
+            return self.refuse("there is no journal", "");
+        }
+        self.control.request_volume();
+        Ok(())
     }
 
     // Parses a network.
@@ -291,6 +307,7 @@ impl<R: HostFiles + AllocGlobal + Wait + Clock> Host<R> {
             Order::Stop => control.sign.set(),
             Order::StopIn(seconds) => control.stop_in(rt, now(rt), seconds),
             Order::Stay => return self.stay(),
+            Order::Volume => return self.request_volume(),
             Order::Reopen => return self.reopen(),
         }
         Ok(())

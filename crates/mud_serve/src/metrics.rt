@@ -57,7 +57,7 @@ pub(crate) fn attend<R: AllocGlobal + Wait + Clock>(host: &Host<R>, stream: TcpS
     if !set_up(&stream) {
         return;
     }
-    let socket = Socket::new(stream, Entrance::Web);
+    let socket = Socket::new(host.rt.alloc(), stream, Entrance::Web);
     let answered = match hear(&host.rt, host.rt.alloc(), &socket) {
         Some((sought, has_body)) => answer_to(host, sought, has_body).ok(),
         None => None,

@@ -14,9 +14,9 @@ use mud_chron::limits::MOST_DESKS;
 use mud_cli::{Listening, WebListening};
 use mud_history_file::load;
 use mud_io::Sink;
-use mud_journal::{Disk, Found, find_journal};
 use mud_page::PAGE;
-use mud_server::{Doors, Hosting, Site, WebDoor, listen_journaled, listen_on};
+use mud_server::{Doors, FirstVolume, Hosting, Site, Volumes, WebDoor, listen_on, listen_volumes};
+use mud_shelf::{FoundVolume, Shelf, find_volume, folder_of};
 use std::fs::File;
 use std::io;
 use std::io::Eprint;
@@ -207,22 +207,22 @@ fn keep_journal<
     requires from { 1 ≤ limits.capacity }
     requires to { limits.capacity ≤ MOST_ENTRIES }
 {
-    let (found, had, torn) = match find_journal(rt, name) {
+    let Ok((mut folder, journal)) = folder_of(rt, name) else {
+        return Err(Stop::OutOfMemory);
+    };
+    let found = match find_volume(rt.alloc(), &folder, journal) {
         Ok(found) => found,
         Err(fault) => return Err(Stop::of_opening(fault)),
     };
-    tell_torn(rt, torn);
-    let changes = had.len();
-    info!(rt; "journal changes={changes} torn={torn}");
-    let entries = go_on_from(rt, listening.load, had)?;
-    keep_entries(rt, listening, limits, hosting, entries, found)
+    // under the lock of the volume, so no other server is making the next one
+    let _ = folder.clear(journal);
+    keep_volumes(rt, listening, limits, hosting, &mut folder, journal, found)
 }
 
-// Serves connections, beginning with these entries, and keeps the world in the journal that was found. It is generic in
-// the disk: the prover's borrow checker does not accept the journal's file beside a value that lives forever, such as
-// the page.
-fn keep_entries<
-    D: Disk + Drop,
+// Serves connections, beginning with the volume that was found. It is generic in the folder: the prover's borrow
+// checker does not accept the journal's file beside a value that lives forever, such as the page.
+fn keep_volumes<
+    S: Shelf,
     R: Runtime
         + AllocGlobal
         + Threads
@@ -236,20 +236,40 @@ fn keep_entries<
     listening: Listening<'_>,
     limits: mud_server::Limits,
     hosting: Hosting<'_>,
-    entries: Vec<Entry>,
-    found: Found<D>,
+    shelf: &mut S,
+    name: &str,
+    found: FoundVolume<S::Disk>,
 ) -> Result<(), Stop>
+    requires found { found.journal.text.items ≡ journal_text Two found.entries.items }
+    requires count { found.journal.count ≡ length found.entries.items }
     requires sessions { limits.sessions ≤ MOST_DESKS }
     requires workers { limits.workers ≤ MOST_WORKERS }
     requires from { 1 ≤ limits.capacity }
     requires to { limits.capacity ≤ MOST_ENTRIES }
-    requires found { found.text.items ≡ journal_text Two (take found.count entries.items) }
-    requires within { found.count ≤ length entries.items }
 {
+    let FoundVolume {
+        number,
+        journal,
+        entries: had,
+        torn,
+    } = found;
+    tell_torn(rt, torn);
+    let changes = had.len();
+    info!(rt; "journal volume={number} changes={changes} torn={torn}");
+    let loaded = go_on_from(rt, listening.load, had)?;
     let doors = doors(rt, listening)?;
     log_doors(rt, &doors);
     let mut sink = Sink::new(io::writer(rt));
-    match listen_journaled(rt, doors, limits, entries, found, hosting, &mut sink) {
+    let first = FirstVolume {
+        number,
+        found: journal,
+        loaded,
+    };
+    let mut volumes = Volumes {
+        shelf,
+        journal: name,
+    };
+    match listen_volumes(rt, &mut volumes, doors, limits, first, hosting, &mut sink) {
         Ok(_) => Ok(()),
         Err(fault) => Err(Stop::of_listening(&fault)),
     }

@@ -61,6 +61,7 @@ fn about<R: AllocGlobal + Clock>(rt: &R, listening: Listening<'_>) -> Result<Abo
         since_seconds: unix_seconds(rt),
         capacity: listening.limits.capacity,
         sessions: MOST_DESKS,
+        has_journal: listening.journal.is_some(),
         bans: copy_of(rt, listening.bans)?,
         log: copy_of(rt, listening.log)?,
     })

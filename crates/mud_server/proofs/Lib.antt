@@ -1,2 +1,7 @@
 mod Crosses
 mod Prefixes
+mod Deciding
+mod Same
+mod Chained
+mod Settled
+mod Taken

@@ -1,12 +1,14 @@
-//! A server of one hall: many sessions at a time, over connections.
+//! A server: many sessions at a time, over connections, in one hall after another.
 //!
 //! [`listen_on`] serves Telnet connections and browsers, each with a session of its own at a desk of one hall. At the
-//! end it closes the hall and writes its history. docs/SERVER.md has the threads, their locks, which thread wakes
-//! which, and how all of them end.
+//! end it closes the hall and writes its history. [`listen_volumes`] keeps the history in volumes: before one is full,
+//! all sessions rest, and sit down in the hall of the next one. docs/SERVER.md has the threads, their locks, which
+//! thread wakes which, how all of them end, and the steps of a turn.
 //!
 //! Threads: the caller's thread writes the journal, and owns it. One more accepts connections, and owns the listeners;
-//! it starts those of `mud_server_threads`. All of them end before the call returns, and none outlives the shared
-//! state, which the caller's thread owns.
+//! it starts those of `mud_server_threads`, and the search for a shorter history. All of them end before the volume
+//! does, and none outlives the shared state, which the caller's thread owns. Between two volumes there is only the
+//! caller's thread.
 //!
 //! ```
 //! let doors = Doors { telnet: TcpListener::bind(&rt, ("127.0.0.1", 4000))?, web: None };
@@ -20,17 +22,27 @@
 //!
 //! Proved: the output. With Ok it is the lines that name the ports, and the text of a history. That history can be
 //! loaded again, begins with the loaded entries, and has no more desks after them than simultaneous sessions. After a
-//! fault the output is a prefix of such a text. No contract states that the history is that of the sessions, that any
-//! session is served, that a change wakes a thread, or that a desk is returned; tests show it.
+//! fault the output is a prefix of such a text. Volumes are a chain: each begins in the world in which the last one
+//! ended, and the file of each has its whole history. No contract states that the history is that of the sessions, that
+//! any session is served or outlives a turn, that a change wakes a thread, or that a desk is returned; tests show it.
 #![tactic(auto)]
 
+mod beginning;
 mod census;
 mod journaled;
+pub mod laws;
 mod listen;
+pub mod marks;
+mod proposal;
+mod turning;
+mod volume;
+mod volumes;
 
+pub use beginning::Volumes;
 pub use journaled::listen_journaled;
 pub use listen::{listen_on, try_entries};
 pub use mud_control::{Control, Hosting, Rates, StopSign};
 pub use mud_listeners::{Doors, Site, WebDoor};
 pub use mud_server_end::ServerFault;
 pub use mud_server_state::Limits;
+pub use volumes::{FirstVolume, LastJournal, listen_volumes};

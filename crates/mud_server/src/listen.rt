@@ -1,6 +1,6 @@
 //! The server: it accepts connections, runs their threads, and settles.
 
-ghost use Rattle.std.specs.Prelude.{◌≡◌, ◌≤◌, ◌<◌, true, Err, IfOk, IfErr, OnOk, OnErr};
+ghost use Rattle.std.specs.Prelude.{◌≡◌, ◌≤◌, ◌<◌, ◌⊎◌, true, Err, IfOk, IfErr, OnOk, OnErr};
 ghost use Rattle.std.specs.Prelude.{ℕ, List, IfNone, IsSome, IsTrue, is_some};
 ghost use Rattle.mud_io.specs.Streams.{Writer};
 ghost use Rattle.mud_chron.specs.Entry.{Entry};
@@ -10,6 +10,7 @@ ghost use Rattle.mud_server_end.specs.Server.{MayEnd, Settles, SettlesInPart, Is
 ghost use Rattle.mud_search.specs.declared.limits.TheConstants.{MOST_WORKERS};
 
 use crate::census::{count_new, count_objects};
+use crate::turning::Turning;
 use log::Log;
 use mud_chron::Entry;
 use mud_control::{Hosting, StopSign};
@@ -19,16 +20,18 @@ use mud_journal::Gate;
 use mud_listeners::{Arrival, Arrivals, Doors, Listeners, Ports};
 use mud_row::History;
 use mud_server_end::{ServerFault, settle, write_entries, write_ports};
-use mud_server_state::{Limits, ServerState};
-use mud_server_threads::{Server, StateOf, see_out};
+use mud_server_state::{Limits, Lobby, ServerState};
+use mud_server_threads::{
+    Guest, Quay, Remaining, Seated, Server, StateOf, begin_rest, look_at_rest, shut_late,
+};
 use mud_socket::now;
-use std::alloc::Global;
+use std::alloc::{AllocFailed, Global};
 use std::io::Write;
 use std::marker::Brand;
 use std::sync::Wait;
 use std::thread;
-use std::thread::{Scope, Threads};
-use std::time::Clock;
+use std::thread::Threads;
+use std::time::{Clock, Duration};
 
 // Returns whether there is a stop flag, and it is set.
 fn is_set(stop: Option<&StopSign>) -> bool
@@ -50,33 +53,67 @@ fn is_done(stop: Option<&StopSign>, total: u32, count: u32) -> bool
     }
 }
 
-// Accepts connections and begins their sessions until no further session may begin, and then closes the listeners.
-// Returns false if a listener failed for good, or the journal did. A connection that is accepted after the stop flag
-// was set gets no session.
+/// The reason why no further connection is accepted.
+#[derive(Clone, Copy, Debug, PartialEq, Eq)]
+pub(crate) enum Served {
+    /// No further session may begin: the stop flag is set, or the total is reached.
+    All,
+    /// A listener failed for good, or the journal did.
+    Failed,
+    /// It is time to turn to the next volume.
+    Due,
+    /// The server turns to its next volume. Its sessions began to rest at this time.
+    Turns(Duration),
+}
+
+/// The values that the threads of a volume share beside its state: the quay, the turn, the limits, and the stop flag.
+#[derive(Clone, Copy)]
+pub(crate) struct Course<'s> {
+    pub(crate) quay: &'s Quay,
+    pub(crate) turning: &'s Turning,
+    pub(crate) limits: Limits,
+    pub(crate) stop: Option<&'s StopSign>,
+}
+
+/// The players of a volume: the sessions that rested, and the connections of the listeners, unless those are closed.
+#[derive(Drop)]
+pub(crate) struct Comers {
+    pub(crate) guests: Vec<Guest>,
+    pub(crate) arrivals: Option<Arrivals>,
+}
+
+// Accepts connections and begins their sessions until no further session may begin, or the server turns. A connection
+// that is accepted after the stop flag was set gets no session. If the listeners were closed in an earlier volume, it
+// returns the reason for that.
 fn accept_all<'s, E, J, R>(
     server: &Server<'s, E, J, R>,
-    arrivals: Arrivals,
-    limits: Limits,
-    stop: Option<&StopSign>,
-) -> bool
+    arrivals: &mut Option<Arrivals>,
+    course: Course<'s>,
+) -> Served
 where
     J: HallName + Send + Sync + 's,
     R: Threads + Wait + Log + Clock + Sync + 's,
-    ensures { IsTrue result → IfNone stop.entry (0 < limits.total) }
+    ensures { result ≡ Served.All → IfNone course.entry.stop (0 < course.entry.limits.total) }
 {
-    let mut arrivals = arrivals;
+    let (total, stop) = (course.limits.total, course.stop);
     let mut reader = server.state.hall.reader(server.rt).ok();
     for _ in server.rt.forever() {
         server.state.control.tick(server.rt, now(server.rt));
         if let Some(reader) = &mut reader {
             count_new(server.alloc, server.state, reader);
         }
-        if is_done(stop, limits.total, server.counted_sessions()) {
-            return true;
+        if is_done(stop, total, server.counted_sessions()) {
+            return Served::All;
+        }
+        let Some(arrivals) = arrivals else {
+            return Served::Failed;
+        };
+        if course.turning.is_due(server) {
+            return Served::Due;
         }
         match arrivals.next(server.rt) {
-            Arrival::Never => return false,
-            _ if server.state.gate.has_failed(server.rt) => return false,
+            Arrival::Never => return Served::Failed,
+            _ if server.state.gate.has_failed(server.rt) => return Served::Failed,
             Arrival::Telnet(stream, peer) if !is_set(stop) => server.welcome(stream, peer),
             Arrival::Web(stream, peer) if !is_set(stop) => server.receive(stream, peer),
             _ => continue,
@@ -85,31 +122,92 @@ where
     unreachable!()
 }
 
-// Accepts connections as long as it may, and waits for the sessions to end.
-fn take_and_see_out<'s, E, J, R>(
-    scope: &'s Scope<'s, E>,
-    rt: &'s R,
-    alloc: Global,
-    state: &'s StateOf<J>,
-    arrivals: Arrivals,
-    limits: Limits,
-    stop: Option<&StopSign>,
-) -> bool
+// Seats the sessions that rested. One that can't sit again ends.
+fn seat_each<'s, E, J, R>(server: &Server<'s, E, J, R>, guests: Vec<Guest>) -> Vec<Seated<J>>
 where
     J: HallName + Send + Sync + 's,
     R: Threads + Wait + Log + Clock + Sync + 's,
-    ensures { IsTrue result → IfNone stop.entry (0 < limits.total) }
 {
-    let server = Server {
-        scope,
-        rt,
-        alloc,
-        state,
-    };
-    let is_served = accept_all(&server, arrivals, limits, stop);
-    state.lobby.close(rt);
-    see_out(rt, state, stop);
-    is_served
+    let mut all = Vec::new(server.alloc);
+    for guest in guests {
+        if let Some(seated) = server.seat(guest)
+            && let Err(AllocFailed { value }) = all.push(seated)
+        {
+            server.unseat(value);
+        }
+    }
+    all
+}
+
+// Seats the sessions that rested, and only then starts their threads: so nobody misses what others say.
+fn seat_all<'s, E, J, R>(server: &Server<'s, E, J, R>, guests: Vec<Guest>)
+where
+    J: HallName + Send + Sync + 's,
+    R: Threads + Wait + Log + Clock + Sync + 's,
+{
+    let mut count = 0u32;
+    for seated in seat_each(server, guests) {
+        server.go_on(seated);
+        count = count.saturating_add(1);
+    }
+    let (control, begun) = (&server.state.control, server.state.hall.loaded_count());
+    server
+        .quay
+        .tell_turn(server.rt, &control.tally, begun, count);
+}
+
+// Waits until no session is left, or it is time to turn: then it returns `Due`, and otherwise the reason why no further
+// connection was accepted. Once the server is shutting down or the journal has failed, the sessions should end too; a
+// socket that is not shut within five seconds is shut then.
+fn see_out<'s, E, J, R>(server: &Server<'s, E, J, R>, course: Course<'s>, served: Served) -> Served
+where
+    J: HallName + Send + Sync + 's,
+    R: Threads + Wait + Log + Clock + Sync + 's,
+    ensures { (result ≡ Served.Due) ⊎ (result ≡ served) }
+{
+    if course.stop.is_none() && server.state.gate.is_open() {
+        return served;
+    }
+    for _ in server.rt.forever() {
+        match look_at_rest(server.rt, server.state, course.stop) {
+            Remaining::Some if course.turning.is_due(server) => return Served::Due,
+            Remaining::Some => {}
+            Remaining::Nobody => return served,
+            Remaining::Ends(ending) => {
+                shut_late(server.rt, server.state, ending);
+                return served;
+            }
+        }
+    }
+    unreachable!()
+}
+
+// Seats the sessions that rested, accepts connections as long as it may, and waits for the sessions to rest or to end.
+// The caller's scope ends once they do.
+fn take_and_see_out<'s, E, J, R>(
+    server: &Server<'s, E, J, R>,
+    course: Course<'s>,
+    comers: Comers,
+) -> (Option<Arrivals>, Served)
+where
+    J: HallName + Send + Sync + 's,
+    R: Threads + Wait + Log + Clock + Sync + 's,
+    ensures { result.1 ≡ Served.All → IfNone course.entry.stop (0 < course.entry.limits.total) }
+{
+    let Comers { guests, arrivals } = comers;
+    let mut arrivals = arrivals;
+    course.turning.begin(server.rt, server.state);
+    seat_all(server, guests);
+    let mut served = accept_all(server, &mut arrivals, course);
+    if served != Served::Due {
+        arrivals = None;
+        server.state.lobby.close(server.rt);
+        served = see_out(server, course, served);
+    }
+    if served == Served::Due {
+        served = Served::Turns(begin_rest(server.rt, server.state));
+    }
+    (arrivals, served)
 }
 
 /// Returns whether a server has ended well, given whether all sessions were served that should be: after this many
@@ -124,25 +222,56 @@ pub(crate) fn is_well_ended(is_served: bool, stop: Option<&StopSign>, total: u32
     }
 }
 
-/// Serves the connections of the listeners, closes the listeners once no further session may begin, and waits until all
-/// sessions have ended. Returns false if a listener failed for good, or the journal did.
+/// Serves the sessions that rested, and the connections of the listeners, until no further session may begin, or the
+/// server turns, and waits until all sessions have ended, or rest.
 pub(crate) fn serve_sessions<J: HallName + Send + Sync, R: Threads + Wait + Log + Clock + Sync>(
+    rt: &R,
+    alloc: Global,
+    state: &StateOf<J>,
+    course: Course<'_>,
+    comers: Comers,
+) -> (Option<Arrivals>, Served) {
+    thread::scope(thread::scope_env(), rt, move |scope| {
+        let server = Server {
+            scope,
+            rt,
+            alloc,
+            state,
+            quay: course.quay,
+        };
+        take_and_see_out(&server, course, comers)
+    })
+}
+
+// Serves the connections of the listeners in one volume. Returns whether all sessions were served that should be.
+fn serve_connections<J: HallName + Send + Sync, R: Threads + Wait + Log + Clock + Sync>(
     rt: &R,
     alloc: Global,
     state: &StateOf<J>,
     listeners: Listeners,
     limits: Limits,
     stop: Option<&StopSign>,
-) -> bool
-    ensures { IsTrue result → IfNone stop.entry (0 < limits.total) }
+) -> Result<bool, ServerFault>
+    ensures total { IfOk result (λ b. IsTrue b → IfNone stop.entry (0 < limits.total)) }
+    ensures fault { IfErr result IsInnerFault }
 {
     let Some(arrivals) = Arrivals::new(listeners) else {
-        return false;
+        return Ok(false);
     };
-    let is_served = thread::scope(thread::scope_env(), rt, move |scope| {
-        take_and_see_out(scope, rt, alloc, state, arrivals, limits, stop)
-    });
-    is_well_ended(is_served, stop, limits.total)
+    let quay = Quay::new(alloc, 1, None, 0)?;
+    let turning = Turning::never(alloc);
+    let course = Course {
+        quay: &quay,
+        turning: &turning,
+        limits,
+        stop,
+    };
+    let comers = Comers {
+        guests: Vec::new(alloc),
+        arrivals: Some(arrivals),
+    };
+    let (_, served) = serve_sessions(rt, alloc, state, course, comers);
+    Ok(is_well_ended(served == Served::All, stop, limits.total))
 }
 
 // Serves in the hall, which J names, and settles it. Returns the history, and whether all sessions were served that
@@ -166,10 +295,11 @@ fn serve_all<J: HallName + Send + Sync, R: Threads + Wait + Log + Clock + Sync>(
     let (listeners, site) = doors.into_parts();
     let Hosting { stop, control } = hosting;
     let hall = hall.with_name::<J>();
-    let state = ServerState::new(alloc, hall, limits, Gate::open(), site, control)?;
-    state.begin(rt);
-    let is_served = serve_sessions(rt, alloc, &state, listeners, limits, stop);
-    let Ok((hall, desks)) = state.into_parts(alloc) else {
+    let lobby = Lobby::new(alloc, site)?;
+    let state = ServerState::new(alloc, hall, limits, Gate::open(), lobby, control)?;
+    state.begin(rt, 1);
+    let is_served = serve_connections(rt, alloc, &state, listeners, limits, stop)?;
+    let Ok((hall, desks, _)) = state.into_parts(alloc) else {
         return Err(ServerFault::OutOfMemory);
     };
     let history = settle(rt, alloc, limits, hall, desks)?;

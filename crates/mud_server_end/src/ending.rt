@@ -1,6 +1,6 @@
 //! The final history of a server.
 
-ghost use Rattle.std.specs.Prelude.{◌≡◌, ◌≤◌, ◌+◌, length, IfOk, IfErr, OnOk};
+ghost use Rattle.std.specs.Prelude.{◌≡◌, ◌≤◌, ◌+◌, false, length, IfOk, IfErr, OnOk};
 ghost use Rattle.mud_world.specs.declared.limits.TheConstants.{MOST_ENTRIES};
 ghost use mathlib.Core.List.{IsPrefix};
 ghost use Rattle.mud_hall.specs.Settlement.{IsSettled};
@@ -43,7 +43,8 @@ pub fn settle<J: HallName, R: Wait>(
     }
 }
 
-/// Writes the remaining entries to the journal, and settles the hall. The journal then has its whole history.
+/// Writes the remaining entries to the journal, and settles the hall. The journal then has its whole history, and can
+/// take further entries.
 pub fn settle_journaled<J: HallName, D: Disk + Drop, R: Wait>(
     rt: &R,
     alloc: Global,
@@ -57,6 +58,8 @@ pub fn settle_journaled<J: HallName, D: Disk + Drop, R: Wait>(
     requires begun { IsPrefix J.loaded writer.entries }
     ensures ends { IfOk result (λ s. MayEnd limits J.loaded s.0) }
     ensures journaled { IfOk result (λ s. Holds (D.kept s.1.disk) s.0) }
+    ensures count { IfOk result (λ s. s.1.count ≡ length s.0) }
+    ensures going { IfOk result (λ s. s.1.has_failed ≡ false) }
     ensures fault { IfErr result IsInnerFault }
 {
     let mut desks = desks;

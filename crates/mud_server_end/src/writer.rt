@@ -73,6 +73,7 @@ impl<J: HallName, D: Disk + Drop> JournalWriter<J, D> {
     pub fn write(&mut self, hall: &Hall<J>) -> Result<Receipt<J>, JournalFault>
         ensures ok { IfOk result (λ r. (r.up_to ≡ length self.new.entries) × Holds self.new.kept self.new.entries) }
         ensures longer { IsPrefix self.old.entries self.new.entries }
+        ensures going { OnOk result (self.new.has_failed ≡ false) }
     {
         if self.journal.has_failed() {
             return Err(JournalFault::Disk);
@@ -92,6 +93,7 @@ impl<J: HallName, D: Disk + Drop> JournalWriter<J, D> {
         ensures holds { OnOk result (Holds self.new.kept self.new.entries) }
         ensures gathered { OnOk result (IsGathered self.new.entries desks.old.items self.new.entries) }
         ensures longer { IsPrefix self.old.entries self.new.entries }
+        ensures going { OnOk result (self.new.has_failed ≡ false) }
     {
         self.write(hall)?;
         let before = self.reader.len();
@@ -105,7 +107,9 @@ impl<J: HallName, D: Disk + Drop> JournalWriter<J, D> {
 
     /// Returns the journal, without its name.
     pub fn into_journal(self) -> Journal<Nameless, D>
-        ensures { D.kept result.disk ≡ self.kept }
+        ensures kept { D.kept result.disk ≡ self.kept }
+        ensures has_failed { result.has_failed ≡ self.has_failed }
+        ensures count { self.has_failed ≡ false → result.count ≡ length self.entries }
     {
         self.journal.without_name()
     }

@@ -241,6 +241,16 @@ impl Lobby {
         }
     }
 
+    /// Sends the browsers away whose head is being read, by shutting their sockets. The lobby stays open.
+    pub fn send_away<R: Wait>(&self, rt: &R) {
+        let chairs = self.chairs.lock(rt);
+        for chair in chairs.iter() {
+            if let Some(head) = chair {
+                head.socket.shut();
+            }
+        }
+    }
+
     /// Takes a ticket for one more session, if one may begin. `settle_ticket` must follow.
     pub fn take_ticket(&self, limits: &Limits) -> bool {
         if self.is_closed.load(Ordering::SeqCst) {

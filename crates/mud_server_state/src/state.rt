@@ -10,11 +10,10 @@ use log::{Log, warn};
 use mud_control::{Control, host_of};
 use mud_hall::{Desk, Fault, Hall, HallName};
 use mud_journal::Gate;
-use mud_listeners::Site;
 use mud_socket::Ending;
 use std::alloc::{AllocError, Global};
 use std::net::IpAddr;
-use std::sync::atomic::{AtomicBool, AtomicU32, Ordering};
+use std::sync::atomic::{AtomicBool, AtomicU32, AtomicU64, Ordering};
 use std::sync::{Arc, Mutex, Wait};
 
 /// Places for sessions. Each has a lock of its own, under which no other lock is taken.
@@ -45,6 +44,12 @@ pub struct ServerState<H, P, G> {
     is_stopping: AtomicBool,
     // True once the host was warned that the history is nearly full.
     was_warned: AtomicBool,
+    // True once all sessions should rest, because the server turns to its next volume.
+    is_turning: AtomicBool,
+    // The number of sessions that rest.
+    resting: AtomicU32,
+    // The number of changes from which a line waits for the turn.
+    held_from: AtomicU64,
     ghost few: { limits.workers ≤ MOST_WORKERS },
 }
 
@@ -88,6 +93,42 @@ impl<H, P, G> ServerState<H, P, G> {
         }
         warn!(rt; "nearly-full changes={changes} most={most}");
     }
+
+    /// Makes all sessions rest, because the server turns to its next volume.
+    pub fn turn(&self) {
+        self.is_turning.store(true, Ordering::SeqCst);
+    }
+
+    /// Returns whether all sessions should rest.
+    pub fn is_turning(&self) -> bool {
+        self.is_turning.load(Ordering::SeqCst)
+    }
+
+    /// Sets the number of changes from which a line waits for the turn.
+    pub fn hold_from(&self, changes: u64) {
+        self.held_from.store(changes, Ordering::SeqCst);
+    }
+
+    /// Returns whether a line has to wait, because the server has to turn first.
+    pub fn is_held(&self) -> bool {
+        self.held_from.load(Ordering::SeqCst) <= self.control.tally.changes()
+    }
+
+    /// Counts one more session that rests.
+    pub fn count_resting(&self) {
+        self.resting.fetch_add(1, Ordering::SeqCst);
+    }
+
+    /// Returns whether as many sessions rest as have a place. A session that ends gives up its place, and once the
+    /// server turns none takes one. So in the end all rest.
+    pub fn all_rest(&self) -> bool {
+        self.taken.load(Ordering::SeqCst) <= self.resting.load(Ordering::SeqCst)
+    }
+
+    /// Sets the number of sessions that became a player's, in earlier volumes.
+    pub fn set_player_count(&self, count: u32) {
+        self.players.store(count, Ordering::SeqCst);
+    }
 }
 
 impl<H, P, J> ServerState<H, P, Gate<J>> {
@@ -116,7 +157,7 @@ impl<J: HallName> ServerState<Hall<J>, Places<J>, Gate<J>> {
         hall: Hall<J>,
         limits: Limits,
         gate: Gate<J>,
-        site: Option<Site>,
+        lobby: Lobby,
         control: Arc<Control>,
     ) -> Result<ServerState<Hall<J>, Places<J>, Gate<J>>, AllocError>
         requires { limits.workers ≤ MOST_WORKERS }
@@ -126,7 +167,7 @@ impl<J: HallName> ServerState<Hall<J>, Places<J>, Gate<J>> {
             hall,
             places: free_places(alloc, limits.sessions)?,
             control,
-            lobby: Lobby::new(alloc, site)?,
+            lobby,
             limits,
             gate,
             choosing: Mutex::new(()),
@@ -134,13 +175,17 @@ impl<J: HallName> ServerState<Hall<J>, Places<J>, Gate<J>> {
             players: AtomicU32::new(0),
             is_stopping: AtomicBool::new(false),
             was_warned: AtomicBool::new(false),
+            is_turning: AtomicBool::new(false),
+            resting: AtomicU32::new(0),
+            held_from: AtomicU64::new(u64::MAX),
         })
     }
 
-    /// Records for the host what the server continues, and logs a warning if the history is nearly full.
-    pub fn begin<R: Wait + Log>(&self, rt: &R) {
+    /// Records for the host which volume the server continues or begins, and logs a warning if the history is nearly
+    /// full.
+    pub fn begin<R: Wait + Log>(&self, rt: &R, volume: u32) {
         let loaded = self.hall.loaded_count();
-        self.control.tally.note_changes(u64::from(loaded));
+        self.control.tally.begin_volume(volume, u64::from(loaded));
         if !self.gate.is_open() {
             self.note_synced(rt);
         }
@@ -163,8 +208,8 @@ impl<J: HallName> ServerState<Hall<J>, Places<J>, Gate<J>> {
         Ok(at)
     }
 
-    // Takes the free place with the lowest number, if there is one.
-    fn take_free<R: Wait>(&self, rt: &R, address: IpAddr) -> Option<usize> {
+    /// Takes the free place with the lowest number, if there is one, whatever the limit of the address is.
+    pub fn take_free<R: Wait>(&self, rt: &R, address: IpAddr) -> Option<usize> {
         for (at, place) in self.places.list.iter().enumerate() {
             let mut place = place.lock(rt);
             if place.address().is_none() {
@@ -265,15 +310,15 @@ impl<J: HallName> ServerState<Hall<J>, Places<J>, Gate<J>> {
         }
     }
 
-    /// Returns the hall and the stored desks.
-    pub fn into_parts(self, alloc: Global) -> Result<(Hall<J>, Vec<Desk<J>>), AllocError>
+    /// Returns the hall, the stored desks, and the lobby.
+    pub fn into_parts(self, alloc: Global) -> Result<(Hall<J>, Vec<Desk<J>>, Lobby), AllocError>
         ensures { IfOk result (λ parts. length parts.1.items ≤ length self.places.list.items) }
     {
         let ServerState {
             hall,
             places,
             control: _,
-            lobby: _,
+            lobby,
             limits: _,
             gate: _,
             choosing: _,
@@ -281,6 +326,9 @@ impl<J: HallName> ServerState<Hall<J>, Places<J>, Gate<J>> {
             players: _,
             is_stopping: _,
             was_warned: _,
+            is_turning: _,
+            resting: _,
+            held_from: _,
         } = self;
         let mut desks = Vec::new(alloc);
         for place in places.list {
@@ -288,6 +336,6 @@ impl<J: HallName> ServerState<Hall<J>, Places<J>, Gate<J>> {
                 desks.push(desk)?;
             }
         }
-        Ok((hall, desks))
+        Ok((hall, desks, lobby))
     }
 }

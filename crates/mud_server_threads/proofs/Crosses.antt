@@ -15,8 +15,14 @@ use Rattle.mud_server_state.proofs.state.ServerState.TheSendSync as state
 use Rattle.mud_server_state.specs.contracts.state.ServerState as ServerState
 use Rattle.mud_server_state.specs.contracts.state.Places as Places
 use Rattle.mud_server_threads.specs.contracts.connection.Connection as Connection
+use Rattle.mud_server_threads.proofs.habits.Habits.TheSendSync as habits
+use Rattle.mud_server_threads.proofs.quay.Guest.TheSendSync as guest
+use Rattle.mud_server_threads.proofs.quay.Quay.TheSendSync as quay
+use Rattle.mud_server_threads.specs.contracts.habits.Habits as Habits
+use Rattle.mud_server_threads.specs.contracts.quay.Guest as Guest
+use Rattle.mud_server_threads.specs.contracts.quay.Quay as Quay
+use Rattle.mud_server_threads.specs.contracts.server.Post as Post
 use Rattle.mud_server_threads.specs.contracts.server.Server as Server
-use Rattle.mud_server_threads.specs.contracts.server.Start as Start
 
 -- a server's state, by its parts
 pub state_sync : (J : RattleType) (h : HallName.Ghosts J.Denot) → IsSend J → IsSync J
@@ -29,10 +35,20 @@ connection_send J h s = search (sendable, crosses, client_send) depth 40 fits 20
 pub connection_sync : (J : RattleType) (h : HallName.Ghosts J.Denot) → IsSend J → IsSync (Connection.the_row J h)
 connection_sync J h s = search (sendable, crosses, client_send) depth 40 fits 20000
 
-pub start_send : (J : RattleType) (h : HallName.Ghosts J.Denot) → IsSend J → IsSend (Start.the_row J h)
-start_send J h s = search (sendable, crosses, connection_send, connection_sync) depth 40 fits 20000
+pub post_send : (J : RattleType) (h : HallName.Ghosts J.Denot) → IsSend J → IsSend (Post.the_row J h)
+post_send J h s = search (connection_send, connection_sync, sendable, crosses) depth 40 fits 20000
+
+-- what a reader thread knows of its session, and the sessions that rest
+pub habits_send : IsSend Habits.the_row
+habits_send = habits.the_send
+
+pub guest_send : IsSend Guest.the_row
+guest_send = guest.the_send
+
+pub quay_sync : IsSync Quay.the_row
+quay_sync = quay.the_sync
 
 -- the values that a thread of a server starts with
 pub server_send : (ℓ : NamedLft) (E J R : RattleType) (h : HallName.Ghosts J.Denot) → IsSend J → IsSync J → IsSync R
     → IsSend (Server.the_row ℓ E J R h)
-server_send ℓ E J R h s y r = search (sendable, scope.the_sync, state_sync, crosses) depth 40 fits 20000
+server_send ℓ E J R h s y r = search (sendable, scope.the_sync, state_sync, quay_sync, crosses) depth 40 fits 20000

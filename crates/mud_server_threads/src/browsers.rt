@@ -17,7 +17,7 @@ use std::time::Clock;
 /// They are one struct, so that a thread's closure captures few values. A proof of its own shows the prover that it may
 /// cross threads.
 #[derive(Drop)]
-struct Guest {
+struct Caller {
     socket: Arc<Socket>,
     address: IpAddr,
     chair: u64,
@@ -91,13 +91,13 @@ where
     }
 
     // Reads the request of a browser, and answers it.
-    fn attend(&self, guest: Guest) {
+    fn attend(&self, caller: Caller) {
         let (rt, lobby) = (self.rt, &self.state.lobby);
-        let Guest {
+        let Caller {
             socket,
             address,
             chair,
-        } = guest;
+        } = caller;
         match self.heard(&socket) {
             Heard::Play { answer, rest } => {
                 self.play(chair, socket, address, answer, &rest);
@@ -114,17 +114,17 @@ where
     }
 
     // Gives a browser a chair. The lobby shares its socket. Returns `None` if there is no chair.
-    fn enter_lobby(&self, stream: TcpStream, address: IpAddr) -> Option<Guest> {
+    fn enter_lobby(&self, stream: TcpStream, address: IpAddr) -> Option<Caller> {
         if !set_up(&stream) {
             return None;
         }
-        let socket = Arc::new(self.alloc, Socket::new(stream, Entrance::Web)).ok()?;
+        let socket = Arc::new(self.alloc, Socket::new(self.alloc, stream, Entrance::Web)).ok()?;
         let theirs = Arc::try_clone(&socket).ok()?;
         let state = self.state;
         let chair = state
             .lobby
             .take_chair(self.rt, theirs, address, &state.limits)?;
-        Some(Guest {
+        Some(Caller {
             socket,
             address,
             chair,
@@ -137,12 +137,12 @@ where
         if !self.may_come(peer.ip()) {
             return;
         }
-        let Some(guest) = self.enter_lobby(stream, peer.ip()) else {
+        let Some(caller) = self.enter_lobby(stream, peer.ip()) else {
             return;
         };
         let server = self.again();
-        let chair = guest.chair;
-        let hearing = self.scope.spawn(move || server.attend(guest));
+        let chair = caller.chair;
+        let hearing = self.scope.spawn(move || server.attend(caller));
         if hearing.is_err() {
             self.state.lobby.release_chair(self.rt, chair);
         }

@@ -1,4 +1,4 @@
-//! Ends the sessions after the last connection was accepted.
+//! Ends the sessions of a volume, or lets them rest.
 
 use crate::connection::StateOf;
 use mud_control::StopSign;
@@ -13,15 +13,44 @@ const LOOK_MILLISECONDS: u64 = 50;
 // The number of checks, five seconds in all, before it shuts the sockets of sessions that should end.
 const LAST_LOOKS: u32 = 100;
 
-/// Waits until no session is left. Once the server is shutting down or the journal has failed, the sessions should end
-/// too; a socket that is not shut within five seconds is shut then.
-pub fn see_out<J: HallName, R: Wait + Clock>(rt: &R, state: &StateOf<J>, stop: Option<&StopSign>) {
-    if stop.is_none() && state.gate.is_open() {
-        return;
+// The wait between two checks whether the lobby is empty, and the number of checks, half a second in all, before its
+// browsers are sent away.
+const LOBBY_MILLISECONDS: u64 = 10;
+
+const LOBBY_LOOKS: u32 = 50;
+
+/// The sessions of a server that accepts no more connections.
+#[derive(Clone, Copy, Debug, PartialEq, Eq)]
+pub enum Remaining {
+    /// None is left.
+    Nobody,
+    /// Some play.
+    Some,
+    /// Some should end for this reason.
+    Ends(Ending),
+}
+
+/// Waits a moment, and looks which sessions are left. If the stop flag is set, they should end.
+pub fn look_at_rest<J: HallName, R: Wait + Clock>(
+    rt: &R,
+    state: &StateOf<J>,
+    stop: Option<&StopSign>,
+) -> Remaining {
+    state.control.tick(rt, now(rt));
+    if let Some(sign) = stop
+        && sign.is_set()
+    {
+        state.stop_sessions();
+        state.control.roster.wake_all(rt);
     }
-    if let Some(ending) = wait_for_ending(rt, state, stop) {
-        shut_late(rt, state, ending);
+    if let Some(ending) = state.ending(rt) {
+        return Remaining::Ends(ending);
     }
+    if is_empty(rt, state) {
+        return Remaining::Nobody;
+    }
+    rest(rt, Duration::from_millis(LOOK_MILLISECONDS));
+    Remaining::Some
 }
 
 // Returns whether no session is left, and no browser in the lobby can begin one: a browser takes its place before it
@@ -30,34 +59,9 @@ fn is_empty<J: HallName, R: Wait>(rt: &R, state: &StateOf<J>) -> bool {
     state.lobby.is_empty() && state.is_empty(rt)
 }
 
-// Waits until no session is left, or those that are left should end. Returns the reason for that, if there is one.
-fn wait_for_ending<J: HallName, R: Wait + Clock>(
-    rt: &R,
-    state: &StateOf<J>,
-    stop: Option<&StopSign>,
-) -> Option<Ending> {
-    for _ in rt.forever() {
-        state.control.tick(rt, now(rt));
-        if let Some(sign) = stop
-            && sign.is_set()
-        {
-            state.stop_sessions();
-            state.control.roster.wake_all(rt);
-        }
-        if let Some(ending) = state.ending(rt) {
-            return Some(ending);
-        }
-        if is_empty(rt, state) {
-            return None;
-        }
-        rest(rt, Duration::from_millis(LOOK_MILLISECONDS));
-    }
-    unreachable!()
-}
-
-// Waits a while until no session is left, and then shuts the sockets of the others, which ends the reads and writes of
-// their threads.
-fn shut_late<J: HallName, R: Wait>(rt: &R, state: &StateOf<J>, ending: Ending) {
+/// Waits five seconds until no session is left, and then shuts the sockets of the others, which ends the reads and
+/// writes of their threads.
+pub fn shut_late<J: HallName, R: Wait>(rt: &R, state: &StateOf<J>, ending: Ending) {
     for _ in 0..LAST_LOOKS {
         if is_empty(rt, state) {
             return;
@@ -65,4 +69,23 @@ fn shut_late<J: HallName, R: Wait>(rt: &R, state: &StateOf<J>, ending: Ending) {
         rest(rt, Duration::from_millis(LOOK_MILLISECONDS));
     }
     state.control.roster.shut_all(rt, ending);
+}
+
+/// Makes all sessions rest, once no browser in the lobby can begin one any more. A browser has half a second to finish
+/// its request, while play goes on; then its socket is shut, and it has to ask again. Returns the time at which the
+/// sessions began to rest.
+pub fn begin_rest<J: HallName, R: Wait + Clock>(rt: &R, state: &StateOf<J>) -> Duration {
+    for look in 0..u32::MAX {
+        if state.lobby.is_empty() {
+            break;
+        }
+        if look >= LOBBY_LOOKS || state.is_held() {
+            state.lobby.send_away(rt);
+        }
+        rest(rt, Duration::from_millis(LOBBY_MILLISECONDS));
+    }
+    let since = now(rt);
+    state.turn();
+    state.control.roster.begin_rest(rt);
+    since
 }

@@ -1,6 +1,7 @@
 //! Connections: the two threads of a session share one, and these are their common operations.
 
-use mud_client::{Client, End, Framing, Outgoing, Sayings};
+use crate::quay::Quay;
+use mud_client::{Client, End, Framing, Outgoing, RestingClient, Sayings};
 use mud_control::Control;
 use mud_hall::{Hall, HallName};
 use mud_journal::{Gate, Held};
@@ -105,7 +106,7 @@ impl<J: HallName> Connection<J> {
 
     /// Sends a browser the answer to its head. Returns whether it took the answer.
     pub(crate) fn let_in<R: Wait + Clock>(&self, rt: &R, answer: &[u8]) -> bool {
-        self.socket.wait_for_ever() && self.socket.send(rt, answer).is_ok()
+        self.socket.send(rt, answer).is_ok()
     }
 
     /// Begins the session at a place. Returns the number of its desk, or `None` if an allocation fails or no desk is
@@ -133,6 +134,68 @@ impl<J: HallName> Connection<J> {
                 None
             }
         }
+    }
+
+    /// Makes the session look for all changes of its volume, in which no session changes anything any more. Returns
+    /// whether the session continues.
+    pub(crate) fn look_at_all<R: Wait + Clock>(&self, rt: &R, state: &StateOf<J>) -> bool {
+        let all = state.control.tally.changes() as usize;
+        if state.gate.wait_for(rt, all).is_some() {
+            return self.look(rt, state);
+        }
+        let mut guard = self.client.lock(rt);
+        self.end(rt, &mut guard, Ending::JournalFault);
+        false
+    }
+
+    /// Returns the parts that outlive the volume: the socket, the client without the desk, and the number of
+    /// announcements that the session was told. The desk is stored. Returns `None` if the session has ended; one whose
+    /// output waits ends.
+    pub(crate) fn rest<R: Wait>(
+        &self,
+        rt: &R,
+        state: &StateOf<J>,
+        at: usize,
+    ) -> Option<(Arc<Socket>, RestingClient, u64)> {
+        let socket = Arc::try_clone(&self.socket).ok()?;
+        let client = self.client.lock(rt).take()?;
+        match client.rest() {
+            Ok((resting, desk)) => {
+                state.keep_desk(rt, at, desk);
+                Some((socket, resting, self.told.load(Ordering::SeqCst)))
+            }
+            Err(client) => {
+                state.keep_desk(rt, at, client.into_desk());
+                None
+            }
+        }
+    }
+
+    /// Continues a session that rested, at a new desk. Returns the number of the desk, or `None` if an allocation fails
+    /// or no desk is left. A session that comes from an earlier volume is told the number of this one. If its player
+    /// can't sit down, it is a guest's, and is told so.
+    pub(crate) fn go_on<R: Wait>(
+        &self,
+        rt: &R,
+        alloc: Global,
+        state: &StateOf<J>,
+        at: usize,
+        resting: RestingClient,
+        quay: &Quay,
+    ) -> Option<u32> {
+        let line = quay.line(alloc).ok()?;
+        let desk = state.take_desk(rt, at).ok()?;
+        let number = desk.number();
+        let (mut client, sits) = Client::again(resting, rt, &state.hall, desk);
+        if quay.is_next() {
+            self.socket.keep(rt, &client.announce(line.as_str()));
+        }
+        if !sits {
+            self.socket
+                .keep(rt, &client.announce("(you are a guest)\r\n"));
+        }
+        *self.client.lock(rt) = Some(client);
+        Some(number)
     }
 
     /// Ends the session: stores its desk for the next one, and frees its place. The socket is shut first, which ends a
@@ -212,7 +275,7 @@ impl<J: HallName> Connection<J> {
         if let Some(before) = client.take() {
             let (after, text) = before.part(first.line().unwrap_or(""), first.close());
             *client = Some(after);
-            self.socket.say_last(&text);
+            self.socket.say_last(rt, &text);
         }
         self.socket.end_writing();
     }
@@ -303,6 +366,33 @@ impl<J: HallName> Connection<J> {
             Ok(()) => true,
             Err(parting) => {
                 self.socket.part(rt, parting);
+                false
+            }
+        }
+    }
+
+    /// Sends the text that was kept while the session rested. Returns whether the session continues.
+    pub(crate) fn send_kept<R: Wait + Clock>(&self, rt: &R) -> bool {
+        let _guard = self.client.lock(rt);
+        match self.socket.send(rt, &[]) {
+            Ok(()) => true,
+            Err(parting) => {
+                self.socket.part(rt, parting);
+                false
+            }
+        }
+    }
+
+    /// Tells a session that begins in a later volume the volume's number. Returns whether the session continues.
+    pub(crate) fn tell_volume<R: Wait + Clock>(&self, rt: &R, alloc: Global, quay: &Quay) -> bool {
+        if quay.volume < 2 {
+            return true;
+        }
+        let mut guard = self.client.lock(rt);
+        match quay.line(alloc) {
+            Ok(line) => self.send_line(rt, &mut guard, line.as_str()),
+            Err(_) => {
+                self.socket.part(rt, Parting::OutOfMemory);
                 false
             }
         }

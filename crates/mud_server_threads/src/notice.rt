@@ -37,7 +37,7 @@ fn leave_to_reader<J: HallName, R: Wait + Clock>(
         let Some(answered) = connection.last_answer() else {
             return;
         };
-        if connection.ending(rt, state).is_some() {
+        if connection.ending(rt, state).is_some() || state.is_turning() {
             return;
         }
         let since = now(rt).saturating_sub(answered);
@@ -69,10 +69,13 @@ pub(crate) fn tell_all<J: HallName, R: Wait + Clock>(
     sleeper: &Sleeper,
 ) {
     for _ in rt.forever() {
-        if connection.ending(rt, state).is_none() {
+        if connection.ending(rt, state).is_none() && !state.is_turning() {
             sleeper.parker.park(rt);
         }
         leave_to_reader(rt, state, connection);
+        if state.is_turning() {
+            return;
+        }
         if let Some(ending) = connection.ending(rt, state) {
             connection.tell_ending(rt, ending);
             if let Ending::ByHost = ending {
@@ -81,6 +84,9 @@ pub(crate) fn tell_all<J: HallName, R: Wait + Clock>(
             return;
         }
         if !connection.look(rt, state) {
+            if state.is_turning() {
+                return;
+            }
             connection.part(rt, Parting::Left);
             break;
         }

@@ -3,13 +3,16 @@
 ghost use Rattle.std.specs.Prelude.{◌≤◌, length, IfOk};
 
 use crate::connection::{Connection, StateOf};
+use crate::habits::Habits;
+use crate::quay::{Guest, Quay};
+use crate::server::Server;
 use log::{Log, info, warn};
 use mud_client::Outgoing;
 use mud_control::{Pace, Refusal};
 use mud_hall::HallName;
-use mud_socket::{Entrance, Parting, Patience, now, rest};
+use mud_socket::{Entrance, Parting, Patience, now, rest, unix_seconds};
 use mud_web::{FirstLine, Verdict};
-use std::net::SocketAddr;
+use std::alloc::Global;
 use std::sync::Wait;
 use std::thread::Threads;
 use std::time::{Clock, Duration};
@@ -19,6 +22,9 @@ const BUFFER_LEN: usize = 4096;
 // The longest wait between two checks whether the session should end.
 const SLICE_MILLISECONDS: u64 = 100;
 
+// The wait between two checks whether the server turns, or all sessions rest.
+const REST_MILLISECONDS: u64 = 1;
+
 // The number of seconds without a wait after which the log names the next wait.
 const EPISODE_SECONDS: u64 = 60;
 
@@ -26,10 +32,8 @@ const EPISODE_SECONDS: u64 = 60;
 // browser.
 const SILENT_SECONDS: u32 = 1;
 
-// The state of a reader thread. It has the connection, the place of its session and the number of its desk, how long
-// the log waits to name it, its time limits and its rate limits. Flags say what is known about its first line, whether
-// it has begun, was named in the log, counts as a player's, and has a player. It also has that player, and the time of
-// its last wait.
+// The state of a reader thread: the connection, the place of its session, the number of its desk, and what it knows of
+// the session.
 #[derive(Drop)]
 struct Reading<'a, J: HallName, R> {
     rt: &'a R,
@@ -37,23 +41,22 @@ struct Reading<'a, J: HallName, R> {
     connection: &'a Connection<J>,
     at: usize,
     number: u32,
-    peer: SocketAddr,
-    moment: Patience,
-    patience: Patience,
-    first_line: FirstLine,
-    has_begun: bool,
-    is_named: bool,
-    is_counted: bool,
-    pace: Pace,
-    has_player: bool,
-    player: Option<(u32, String)>,
-    last_wait: Option<Duration>,
+    habits: Habits,
+}
+
+// The reason why a reader thread stops.
+enum Stopped {
+    // The session has ended for this reason.
+    Parted(Parting),
+    // The session rests.
+    Rests,
 }
 
 impl<'a, J: HallName, R: Threads + Wait + Log + Clock + Sync> Reading<'a, J, R> {
     // Returns the state for the session at the place, whose time limit for a player begins now.
     fn new(
         rt: &'a R,
+        alloc: Global,
         state: &'a StateOf<J>,
         connection: &'a Connection<J>,
         at: usize,
@@ -62,13 +65,10 @@ impl<'a, J: HallName, R: Threads + Wait + Log + Clock + Sync> Reading<'a, J, R> 
         let (socket, start) = (connection.socket(), now(rt));
         let (peer, control) = (socket.peer(), &state.control);
         let shared = control.crowd.begin(rt, peer.ip(), start);
-        Reading {
-            rt,
-            state,
-            connection,
-            at,
-            number,
+        let habits = Habits {
             peer,
+            since: start,
+            since_seconds: unix_seconds(rt),
             moment: Patience::new(0, SILENT_SECONDS, start),
             patience: Patience::new(state.limits.idle, state.limits.unnamed, start),
             first_line: FirstLine::new(),
@@ -79,16 +79,25 @@ impl<'a, J: HallName, R: Threads + Wait + Log + Clock + Sync> Reading<'a, J, R> 
             has_player: false,
             player: None,
             last_wait: None,
+            unread: Vec::new(alloc),
+            has_more: false,
+        };
+        Reading {
+            rt,
+            state,
+            connection,
+            at,
+            number,
+            habits,
         }
     }
 
-    // Names the session in the log, if it was not named yet. From now on a read waits as long as the patience allows.
+    // Names the session in the log, if it was not named yet.
     fn name(&mut self) {
-        if !self.is_named {
-            self.is_named = true;
-            self.connection.socket().wait_for_ever();
+        if !self.habits.is_named {
+            self.habits.is_named = true;
             self.state.control.tally.count_session();
-            let (number, peer) = (self.number, self.peer);
+            let (number, peer) = (self.number, self.habits.peer);
             let by = self.connection.socket().entrance().word();
             info!(self.rt; "begin session={number} from={peer} by={by}");
         }
@@ -96,8 +105,8 @@ impl<'a, J: HallName, R: Threads + Wait + Log + Clock + Sync> Reading<'a, J, R> 
 
     // Begins the session: it counts for the total, and the log names it.
     fn begin(&mut self) {
-        if !self.has_begun {
-            self.has_begun = true;
+        if !self.habits.has_begun {
+            self.habits.has_begun = true;
             self.state.lobby.settle_ticket(&self.state.limits, true);
         }
         self.name();
@@ -107,10 +116,10 @@ impl<'a, J: HallName, R: Threads + Wait + Log + Clock + Sync> Reading<'a, J, R> 
     // known not to be, the session has begun. While it may still become one, only blank lines of it are complete, so
     // the session may have them (the law `undecided_ends_no_line` of `mud_web`).
     fn is_request(&mut self, bytes: &[u8]) -> bool {
-        if self.has_begun {
+        if self.habits.has_begun {
             return false;
         }
-        match self.first_line.feed(bytes) {
+        match self.habits.first_line.feed(bytes) {
             Verdict::Request => true,
             Verdict::Undecided => false,
             Verdict::NoRequest => {
@@ -123,41 +132,74 @@ impl<'a, J: HallName, R: Threads + Wait + Log + Clock + Sync> Reading<'a, J, R> 
     // Records that a line came now.
     fn hear(&mut self) {
         let now = now(self.rt);
-        self.patience.hear(now);
+        self.habits.patience.hear(now);
         self.connection.socket().hear(now);
     }
 
     // Counts a wait. The log names it, unless the session waited less than a minute ago.
     fn note_wait(&mut self, now: Duration) {
         self.state.control.tally.count_wait();
-        let is_new = match self.last_wait {
+        let is_new = match self.habits.last_wait {
             Some(last) => now.saturating_sub(last) > Duration::from_secs(EPISODE_SECONDS),
             None => true,
         };
-        self.last_wait = Some(now);
+        self.habits.last_wait = Some(now);
         if is_new {
-            let (number, peer) = (self.number, self.peer);
+            let (number, peer) = (self.number, self.habits.peer);
             info!(self.rt; "slow session={number} from={peer}");
         }
     }
 
     // Waits until the rate limits allow one more line, or the session should end. Meanwhile no lock is held, and
-    // nothing is read.
-    fn keep_pace(&mut self) {
+    // nothing is read. Returns false if the session should rest before that.
+    fn keep_pace(&mut self) -> bool {
         let (rt, state) = (self.rt, self.state);
         for round in 0..u64::MAX {
             let moment = now(rt);
-            let Some(wait) = self.pace.take_line(rt, &state.control.excess, moment) else {
-                return;
+            let Some(wait) = self
+                .habits
+                .pace
+                .take_line(rt, &state.control.excess, moment)
+            else {
+                return true;
             };
             if self.connection.ending(rt, state).is_some() {
-                return;
+                return true;
+            }
+            if state.is_turning() {
+                return false;
             }
             if round == 0 {
                 self.note_wait(moment);
             }
             rest(rt, wait.min(Duration::from_millis(SLICE_MILLISECONDS)));
         }
+        true
+    }
+
+    // Waits while the volume is so full that the server has to turn first, which it does soon. Returns false if the
+    // session should rest.
+    fn wait_for_turn(&self) -> bool {
+        let (rt, state) = (self.rt, self.state);
+        for _ in rt.forever() {
+            if !state.is_held() || self.connection.ending(rt, state).is_some() {
+                return true;
+            }
+            if state.is_turning() {
+                return false;
+            }
+            rest(rt, Duration::from_millis(REST_MILLISECONDS));
+        }
+        unreachable!()
+    }
+
+    // Puts input off to the next volume. The session can rest then, as if a line waited.
+    fn put_off(&mut self, bytes: &[u8]) -> Option<bool> {
+        if self.habits.unread.extend_from_slice(bytes).is_err() {
+            self.connection.socket().part(self.rt, Parting::OutOfMemory);
+            return None;
+        }
+        Some(true)
     }
 
     // Counts an answered line for the rate limits and for the host. A line end without an answer, such as the second
@@ -165,18 +207,19 @@ impl<'a, J: HallName, R: Threads + Wait + Log + Clock + Sync> Reading<'a, J, R> 
     fn spend(&mut self, took: Duration, outgoing: &Outgoing<J>) {
         let (rt, control) = (self.rt, &self.state.control);
         if outgoing.has_line && outgoing.text.is_empty() {
-            self.pace.give_back();
+            self.habits.pace.give_back();
         } else if outgoing.has_line {
             control.tally.count_line();
         }
         let has_changed = outgoing.accepted.is_some();
-        self.pace
+        self.habits
+            .pace
             .spend(rt, &control.excess, now(rt), took, has_changed);
     }
 
     // Names the session's player in the log and for the host, once there is one.
     fn learn_player(&mut self) {
-        if !self.has_player || self.player.is_some() {
+        if !self.habits.has_player || self.habits.player.is_some() {
             return;
         }
         let (rt, state) = (self.rt, self.state);
@@ -188,7 +231,7 @@ impl<'a, J: HallName, R: Threads + Wait + Log + Clock + Sync> Reading<'a, J, R> 
         if let Ok(copy) = name.clone() {
             state.control.roster.name(rt, self.at, player, copy);
         }
-        self.player = Some((player, name));
+        self.habits.player = Some((player, name));
     }
 
     // Announces a change of the session to the others: there are at least that many entries. With its first change it
@@ -200,8 +243,8 @@ impl<'a, J: HallName, R: Threads + Wait + Log + Clock + Sync> Reading<'a, J, R> 
         self.state.announce_change(self.rt, self.at, version);
         self.state.control.tally.count_change(version as u64);
         self.state.warn_if_nearly_full(self.rt, version);
-        if !self.is_counted {
-            self.is_counted = true;
+        if !self.habits.is_counted {
+            self.habits.is_counted = true;
             self.state.count_player();
         }
     }
@@ -211,8 +254,8 @@ impl<'a, J: HallName, R: Threads + Wait + Log + Clock + Sync> Reading<'a, J, R> 
     fn tell(&mut self, outgoing: &Outgoing<J>) {
         self.tell_change(outgoing);
         if outgoing.has_player {
-            self.has_player = true;
-            self.patience.name();
+            self.habits.has_player = true;
+            self.habits.patience.name();
         }
         if outgoing.has_line {
             self.connection.note_answer(now(self.rt));
@@ -227,7 +270,9 @@ impl<'a, J: HallName, R: Threads + Wait + Log + Clock + Sync> Reading<'a, J, R> 
     // a player who types without a pause leaves the notice thread no moment in which the lock is free.
     fn step(&mut self, bytes: &[u8]) -> Option<bool> {
         let (rt, state, connection) = (self.rt, self.state, self.connection);
-        self.keep_pace();
+        if !self.wait_for_turn() || !self.keep_pace() {
+            return self.put_off(bytes);
+        }
         let mut guard = connection.client().lock(rt);
         if let Some(ending) = connection.ending(rt, state) {
             connection.end(rt, &mut guard, ending);
@@ -263,33 +308,56 @@ impl<'a, J: HallName, R: Threads + Wait + Log + Clock + Sync> Reading<'a, J, R> 
     }
 
     // Sends the greeting, and serves the input, beginning with `first`. Returns the reason for the end.
-    fn greet_and_converse(&mut self, first: &[u8]) -> Parting {
-        if self.has_begun {
+    fn greet_and_converse(&mut self, alloc: Global, first: &[u8], quay: &Quay) -> Stopped {
+        if self.habits.has_begun {
             self.name();
         }
-        if !self.connection.look(self.rt, self.state) {
-            return Parting::Left;
+        let (rt, connection) = (self.rt, self.connection);
+        if !connection.look(rt, self.state) || !connection.tell_volume(rt, alloc, quay) {
+            return Stopped::Parted(Parting::Left);
         }
-        match self.converse(first) {
-            Ok(()) => Parting::Left,
-            Err(parting) => parting,
-        }
+        let waits = self.take_in(first);
+        self.converse(waits)
     }
 
-    // Serves the input, beginning with `first`, to the end of the input or of the session. The error is the reason for
-    // the end, if the input does not show it. The answer to a line is sent before the next line is read, so no more
-    // than one answer is kept.
-    fn converse(&mut self, first: &[u8]) -> Result<(), Parting> {
+    // Continues a session that rested: sends what was kept for it, and serves its input, beginning with the input and
+    // the lines that wait. Returns the reason for the end.
+    fn go_on(&mut self) -> Stopped {
+        if !self.connection.send_kept(self.rt) || !self.connection.look(self.rt, self.state) {
+            return Stopped::Parted(Parting::Left);
+        }
+        let empty = Vec::new(*Vec::allocator(&self.habits.unread));
+        let unread = std::mem::replace(&mut self.habits.unread, empty);
+        let waits = if unread.is_empty() {
+            Some(self.habits.has_more)
+        } else {
+            self.step(&unread)
+        };
+        self.converse(waits)
+    }
+
+    // Serves the input to the end of the input or of the session, or until the session should rest. First come the
+    // lines that wait, if `waits` says so. The answer to a line is sent before the next line is read, so no more than
+    // one answer is kept.
+    fn converse(&mut self, waits: Option<bool>) -> Stopped {
         let mut buffer = [0u8; BUFFER_LEN];
-        let mut waits = self.take_in(first);
+        let mut waits = waits;
         for _ in self.rt.forever() {
-            match waits {
-                None => return Ok(()),
-                Some(true) => waits = self.step(&[]),
-                Some(false) => {
-                    let count = self.next_piece(&mut buffer)?;
-                    waits = self.take_in(&buffer[..count]);
-                }
+            let Some(has_more) = waits else {
+                return Stopped::Parted(Parting::Left);
+            };
+            if self.state.is_turning() {
+                self.habits.has_more = has_more;
+                return Stopped::Rests;
+            }
+            if has_more {
+                waits = self.step(&[]);
+                continue;
+            }
+            match self.next_piece(&mut buffer) {
+                Ok(0) => {}
+                Ok(count) => waits = self.take_in(&buffer[..count]),
+                Err(parting) => return Stopped::Parted(parting),
             }
         }
         unreachable!()
@@ -300,10 +368,15 @@ impl<'a, J: HallName, R: Threads + Wait + Log + Clock + Sync> Reading<'a, J, R> 
         ensures { IfOk result (λ count. count ≤ length buffer.old) }
     {
         let connection = self.connection;
-        if self.is_named {
-            return connection.socket().read(self.rt, &self.patience, buffer);
+        if self.habits.is_named {
+            return connection
+                .socket()
+                .read(self.rt, &self.habits.patience, buffer);
         }
-        match connection.socket().read(self.rt, &self.moment, buffer) {
+        match connection
+            .socket()
+            .read(self.rt, &self.habits.moment, buffer)
+        {
             Err(Parting::Unnamed) => {
                 self.name();
                 Ok(0)
@@ -312,13 +385,77 @@ impl<'a, J: HallName, R: Threads + Wait + Log + Clock + Sync> Reading<'a, J, R> 
         }
     }
 
+    // Tells the host again who plays at this place.
+    fn tell_player(&self) {
+        if let Some((player, name)) = &self.habits.player
+            && let Ok(copy) = name.clone()
+        {
+            self.state
+                .control
+                .roster
+                .name(self.rt, self.at, *player, copy);
+        }
+    }
+
+    // Ends the session, or lets it rest.
+    fn stop(self, quay: &Quay, stopped: Stopped) {
+        let mut reading = self;
+        let parting = match stopped {
+            Stopped::Parted(parting) => parting,
+            Stopped::Rests if reading.see_all() => {
+                reading.land(quay);
+                return;
+            }
+            Stopped::Rests => Parting::Left,
+        };
+        reading.hang_up(parting);
+    }
+
+    // Waits until all sessions rest, and tells the session what is left of the volume. Returns whether it continues.
+    fn see_all(&self) -> bool {
+        let (rt, state) = (self.rt, self.state);
+        state.count_resting();
+        for _ in rt.forever() {
+            if state.all_rest() {
+                break;
+            }
+            rest(rt, Duration::from_millis(REST_MILLISECONDS));
+        }
+        self.connection.look_at_all(rt, state)
+    }
+
+    // Leaves the session on the quay, and returns its desk and its place.
+    fn land(self, quay: &Quay) {
+        let Reading {
+            rt,
+            state,
+            connection,
+            at,
+            number,
+            habits,
+        } = self;
+        let Some((socket, client, told)) = connection.rest(rt, state, at) else {
+            connection.leave(rt, state, at);
+            return;
+        };
+        let guest = Guest {
+            socket,
+            client,
+            told,
+            number,
+            habits,
+        };
+        quay.land(rt, guest);
+        state.release_place(rt, at);
+    }
+
     // Ends the session for this reason, unless it has ended for another, and releases its place. Then it drains a web
     // socket that was closed.
     fn hang_up(&mut self, parting: Parting) {
         let (rt, connection) = (self.rt, self.connection);
         connection.hang_up();
-        if self.pace.is_shared() {
-            self.state.control.crowd.end(rt, self.peer.ip());
+        if self.habits.pace.is_shared() {
+            self.state.control.crowd.end(rt, self.habits.peer.ip());
         }
         if connection.part(rt, parting) {
             connection.give_back(rt, self.state, self.at);
@@ -340,12 +477,12 @@ impl<'a, J: HallName, R: Threads + Wait + Log + Clock + Sync> Reading<'a, J, R> 
         } else {
             self.begin();
         }
-        if self.is_named {
+        if self.habits.is_named {
             self.log_end(parting);
         } else {
             let count = state.control.tally.count_refusal(Refusal::Request);
             if state.control.tally.may_log(now(rt)) {
-                let address = self.peer.ip();
+                let address = self.habits.peer.ip();
                 warn!(rt; "refused from={address} why=request count={count}");
             }
         }
@@ -353,8 +490,8 @@ impl<'a, J: HallName, R: Threads + Wait + Log + Clock + Sync> Reading<'a, J, R> 
 
     // Logs the end reason of the session, and its player.
     fn log_end(&self, parting: Parting) {
-        let (rt, number, peer) = (self.rt, self.number, self.peer);
-        match &self.player {
+        let (rt, number, peer) = (self.rt, self.number, self.habits.peer);
+        match &self.habits.player {
             Some((player, name)) => {
                 info!(rt; "end session={number} from={peer} why={parting} player=#{player} name=\"{name}\"");
             }
@@ -363,17 +500,44 @@ impl<'a, J: HallName, R: Threads + Wait + Log + Clock + Sync> Reading<'a, J, R> 
     }
 }
 
-/// Runs the reader thread of the session at a place, at the desk with this number: it sends the greeting, serves the
-/// input, beginning with `first`, and ends the session.
-pub(crate) fn read_all<'a, J: HallName, R: Threads + Wait + Log + Clock + Sync>(
-    rt: &'a R,
-    state: &'a StateOf<J>,
-    connection: &'a Connection<J>,
+/// Runs the reader thread of the session at a place, at the desk with this number. It sends the greeting, and serves
+/// the input, beginning with `first`. Then it ends the session, or leaves it on the quay.
+pub(crate) fn read_all<'s, E, J: HallName, R: Threads + Wait + Log + Clock + Sync>(
+    server: &Server<'s, E, J, R>,
+    connection: &Connection<J>,
     at: usize,
     number: u32,
     first: &[u8],
 ) {
-    let mut reading = Reading::new(rt, state, connection, at, number);
-    let parting = reading.greet_and_converse(first);
-    reading.hang_up(parting);
+    let mut reading = Reading::new(
+        server.rt,
+        server.alloc,
+        server.state,
+        connection,
+        at,
+        number,
+    );
+    let stopped = reading.greet_and_converse(server.alloc, first, server.quay);
+    reading.stop(server.quay, stopped);
+}
+
+/// Runs the reader thread of a session that rested, at its new place and desk.
+pub(crate) fn read_on<'s, E, J: HallName, R: Threads + Wait + Log + Clock + Sync>(
+    server: &Server<'s, E, J, R>,
+    connection: &Connection<J>,
+    at: usize,
+    number: u32,
+    habits: Habits,
+) {
+    let mut reading = Reading {
+        rt: server.rt,
+        state: server.state,
+        connection,
+        at,
+        number,
+        habits,
+    };
+    reading.tell_player();
+    let stopped = reading.go_on();
+    reading.stop(server.quay, stopped);
 }

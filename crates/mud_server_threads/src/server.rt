@@ -1,14 +1,17 @@
 //! Starts threads and sessions.
 
 use crate::connection::{Connection, StateOf};
+use crate::habits::Habits;
 use crate::notice::{Sleeper, tell_all};
-use crate::reader::read_all;
+use crate::quay::{Guest, Quay};
+use crate::reader::{read_all, read_on};
 use crossbeam_utils::sync::Parker;
-use log::{Log, warn};
+use log::{Log, info, warn};
+use mud_client::RestingClient;
 use mud_control::{Member, Refusal};
 use mud_hall::HallName;
 use mud_server_state::NoPlace;
-use mud_socket::{Socket, now, unix_seconds};
+use mud_socket::{Parting, Socket, now, unix_seconds};
 use std::alloc::Global;
 use std::net::IpAddr;
 use std::sync::{Arc, Wait};
@@ -26,6 +29,15 @@ pub struct Server<'s, E, J: HallName, R> {
     pub rt: &'s R,
     pub alloc: Global,
     pub state: &'s StateOf<J>,
+    pub quay: &'s Quay,
+}
+
+/// A session that sits at a desk again, and has no threads yet.
+#[derive(Drop)]
+pub struct Seated<J: HallName> {
+    begun: Begun<J>,
+    at: usize,
+    habits: Habits,
 }
 
 /// The values for the threads of a new session.
@@ -38,12 +50,13 @@ pub(crate) struct Begun<J: HallName> {
     pub(crate) number: u32,
 }
 
-/// The values for the reader thread of a session: its place, and the number of its desk.
+/// The session of a reader thread: its connection, its place, and the number of its desk. It is one struct for the same
+/// reason as [`Server`].
 #[derive(Drop)]
-pub(crate) struct Start<J: HallName> {
-    connection: Arc<Connection<J>>,
-    at: usize,
-    number: u32,
+pub(crate) struct Post<J: HallName> {
+    pub(crate) connection: Arc<Connection<J>>,
+    pub(crate) at: usize,
+    pub(crate) number: u32,
 }
 
 // Returns why a connection without a place is refused.
@@ -66,12 +79,14 @@ where
             rt,
             alloc,
             state,
+            quay,
         } = *self;
         Server {
             scope,
             rt,
             alloc,
             state,
+            quay,
         }
     }
 
@@ -169,24 +184,144 @@ where
 
     /// Runs the reader thread of the session at a place, at the desk with this number, with this first input.
     pub(crate) fn read(&self, connection: &Connection<J>, at: usize, number: u32, first: &[u8]) {
-        read_all(self.rt, self.state, connection, at, number, first);
+        read_all(self, connection, at, number, first);
     }
 
-    // Runs the reader thread of a session without any input yet.
-    fn read_at(&self, start: &Start<J>) {
-        self.read(&start.connection, start.at, start.number, &[]);
+    /// Seats a session that rested. No thread starts yet: nobody may speak before all sit, because a session hears
+    /// nothing until it sits. Returns `None` if the session ends, because memory lacks.
+    pub fn seat(&self, guest: Guest) -> Option<Seated<J>> {
+        let Guest {
+            socket,
+            client,
+            told,
+            number,
+            habits,
+        } = guest;
+        socket.end_rest();
+        let theirs = Arc::try_clone(&socket).ok()?;
+        let Some(at) = self.state.take_free(self.rt, habits.peer.ip()) else {
+            self.lose(&socket, number, &habits);
+            return None;
+        };
+        let Some(begun) = self.open_again(at, theirs, client, told, &habits) else {
+            self.state.release_place(self.rt, at);
+            self.lose(&socket, number, &habits);
+            return None;
+        };
+        let (volume, new) = (self.quay.volume, begun.number);
+        if new != number {
+            info!(self.rt; "renumber session={new} was={number} volume={volume}");
+        }
+        Some(Seated { begun, at, habits })
     }
 
-    /// Starts the reader thread of the session at a place, at the desk with this number. Returns whether it could be
-    /// started.
-    pub(crate) fn begin_reading(&self, reads: Arc<Connection<J>>, at: usize, number: u32) -> bool {
-        let server = self.again();
-        let start = Start {
+    // Ends a session that can't sit again.
+    fn lose(&self, socket: &Socket, number: u32, habits: &Habits) {
+        let (rt, peer) = (self.rt, habits.peer);
+        socket.shut();
+        if habits.pace.is_shared() {
+            self.state.control.crowd.end(rt, peer.ip());
+        }
+        let parting = socket.part(rt, Parting::OutOfMemory);
+        info!(rt; "end session={number} from={peer} why={parting}");
+    }
+
+    // Opens a session that rested at a place.
+    fn open_again(
+        &self,
+        at: usize,
+        socket: Arc<Socket>,
+        client: RestingClient,
+        told: u64,
+        habits: &Habits,
+    ) -> Option<Begun<J>> {
+        let (rt, alloc) = (self.rt, self.alloc);
+        let parker = Parker::new(alloc).ok()?;
+        let unparker = parker.unparker().clone().ok()?;
+        let theirs = Arc::try_clone(&socket).ok()?;
+        let member = Member::new(unparker, theirs, habits.since, habits.since_seconds);
+        let kept = Arc::new(alloc, Connection::new(socket, told)).ok()?;
+        let reads = Arc::try_clone(&kept).ok()?;
+        let tells = Arc::try_clone(&kept).ok()?;
+        self.state.control.roster.enter(rt, at, member);
+        let number = kept.go_on(rt, alloc, self.state, at, client, self.quay)?;
+        self.state.control.roster.number(rt, at, number);
+        self.dismiss_banned(&kept);
+        Some(Begun {
+            kept,
+            reads,
+            tells,
+            sleeper: Sleeper { parker },
+            number,
+        })
+    }
+
+    /// Starts the threads of a session that sits again.
+    pub fn go_on(&self, seated: Seated<J>) {
+        let Seated { begun, at, habits } = seated;
+        let Begun {
+            kept,
+            reads,
+            tells,
+            sleeper,
+            number,
+        } = begun;
+        let post = Post {
             connection: reads,
             at,
             number,
         };
-        let reading = self.scope.spawn(move || server.read_at(&start));
+        let goes_on = self.begin_telling(tells, sleeper) && self.begin_reading_on(post, habits);
+        if !goes_on {
+            kept.leave(self.rt, self.state, at);
+        }
+    }
+
+    /// Ends a session that sits again and has no threads. Its desk is stored.
+    pub fn unseat(&self, seated: Seated<J>) {
+        let Seated { begun, at, habits } = seated;
+        let Begun { kept, number, .. } = begun;
+        self.lose(kept.socket(), number, &habits);
+        kept.leave(self.rt, self.state, at);
+    }
+
+    // Runs the reader thread of a session that sits again.
+    fn read_again(&self, post: Post<J>, habits: Habits) {
+        let Post {
+            connection,
+            at,
+            number,
+        } = post;
+        read_on(self, &connection, at, number, habits);
+    }
+
+    // Starts the reader thread of a session that sits again. Returns whether it could be started.
+    fn begin_reading_on(&self, post: Post<J>, habits: Habits) -> bool {
+        let server = self.again();
+        let reading = self.scope.spawn(move || server.read_again(post, habits));
+        reading.is_ok()
+    }
+
+    // Runs the reader thread of a session.
+    fn read_first(&self, post: Post<J>) {
+        self.read(&post.connection, post.at, post.number, &[]);
+    }
+
+    /// Starts the reader thread of the session at a place, at the desk with this number. Returns whether it could be
+    /// started.
+    pub(crate) fn begin_reading(
+        &self,
+        connection: Arc<Connection<J>>,
+        at: usize,
+        number: u32,
+    ) -> bool {
+        let server = self.again();
+        let post = Post {
+            connection,
+            at,
+            number,
+        };
+        let reading = self.scope.spawn(move || server.read_first(post));
         reading.is_ok()
     }
 }

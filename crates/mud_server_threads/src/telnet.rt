@@ -26,7 +26,10 @@ where
     // Begins a Telnet session at the place. Returns whether it did.
     fn begin(&self, at: usize, stream: TcpStream) -> bool {
         let (rt, state) = (self.rt, self.state);
-        let opened = match Arc::new(self.alloc, Socket::new(stream, Entrance::Telnet)) {
+        let opened = match Arc::new(
+            self.alloc,
+            Socket::new(self.alloc, stream, Entrance::Telnet),
+        ) {
             Ok(socket) => self.open(at, socket),
             Err(_) => None,
         };

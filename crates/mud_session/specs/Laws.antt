@@ -1,17 +1,17 @@
 -- Laws of the definitions.
 use mathlib.Core.List.{IsPrefix}
-use Rattle.std.specs.Prelude.{◌≡◌, ◌⊎◌, ℕ, Bool, true, false, Some, List, [], ◌∷◌, ◌++◌, map, All, length}
+use Rattle.std.specs.Prelude.{◌≡◌, ◌⊎◌, ℕ, Bool, true, false, Option, Some, List, [], ◌∷◌, ◌++◌, map, All, length}
 use Rattle.std.specs.List.{flat_map}
 use Rattle.mud_nvt.specs.Units.{units}
 use Rattle.mud_nvt.specs.History.{StandsAfter}
 use Rattle.mud_chron.specs.Entry.{Entry}
 use Rattle.mud_hall.specs.Notices.{notices}
-use Rattle.mud_hall.specs.Desk.{DeskState, TakesIn, as_guest}
+use Rattle.mud_hall.specs.Desk.{DeskState, TakesIn}
 use Rattle.mud_hall.specs.Steps.{Call, See, Act, Ask, Told, Hall, lone_desk, opened_alone, At, IsRun, PerformsAll}
 use Rattle.mud_session.specs.Session.{TakesNone, Case, Rests, Looks, Fails, Asks, Acts, Turn, Play, text_of}
 use Rattle.mud_session.specs.State.{SessionState, DoorState}
 use Rattle.mud_session.specs.Feeds.{Feeds, Nudges}
-use Rattle.mud_session.specs.Talks.{IsTalk}
+use Rattle.mud_session.specs.Talks.{IsTalk, Start, next_start, as_begun}
 use Rattle.mud_session.specs.Notices.{NamesUpTo, IsNotice}
 
 -- an allocation failed for the line
@@ -57,26 +57,31 @@ pub record AreScript (capacity : ℕ) (turns : List Turn) (new : DeskState) : Ty
   pub run : IsRun capacity [] opened_alone (map (At 1) (all_calls turns)) hall
   pub desk : hall.desks 1 ≡ Some new
 
--- ---- the output from the greeting on
+-- ---- the output from the greeting on, at one hall after another
 
--- a talk begins with its greeting, continues with input and looks, and loses nothing when output is taken. So the
--- output is a prefix of the greeting and the text of turns, and these turns are calls of its desk
-pub record TalksGoOn (capacity : ℕ) (greeting : List ℕ) : Type 0 where
-  pub begins : (session : SessionState) (desk : DeskState) → StandsAfter session.terminal []
-      → session.has_ended ≡ false → session.out ≡ greeting → IsTalk capacity greeting [] [] session (as_guest desk)
+-- a talk begins where its start says, continues with input and looks, and loses nothing when output is taken, or at its
+-- next hall. So the output is a prefix of the greeting and the text of turns, and the turns at a hall are calls of its
+-- desk
+pub record TalksGoOn (capacity : ℕ) (start : Start) : Type 0 where
+  pub begins : (typed sent : List ℕ) (session : SessionState) (desk : DeskState) → StandsAfter session.terminal typed
+      → session.has_ended ≡ false → units typed ≡ start.units → start.text ≡ sent ++ session.out
+      → IsTalk capacity start typed sent session (as_begun start.player desk)
   pub sends : (typed sent : List ℕ) (session : SessionState) (desk : DeskState)
-      → IsTalk capacity greeting typed sent session desk
-      → IsTalk capacity greeting typed (sent ++ session.out) (record session { out = [] }) desk
+      → IsTalk capacity start typed sent session desk
+      → IsTalk capacity start typed (sent ++ session.out) (record session { out = [] }) desk
   pub feeds : (typed sent bytes : List ℕ) (old new : SessionState) (was is : DoorState) → was.capacity ≡ capacity
-      → IsTalk capacity greeting typed sent old was.desk → Feeds TakesIn typed bytes old new was is
-      → IsTalk capacity greeting (typed ++ bytes) sent new is.desk
+      → IsTalk capacity start typed sent old was.desk → Feeds TakesIn typed bytes old new was is
+      → IsTalk capacity start (typed ++ bytes) sent new is.desk
   pub nudges : (typed sent : List ℕ) (old new : SessionState) (was is : DoorState) → was.capacity ≡ capacity
-      → IsTalk capacity greeting typed sent old was.desk → Nudges TakesIn old new was is
-      → IsTalk capacity greeting typed sent new is.desk
+      → IsTalk capacity start typed sent old was.desk → Nudges TakesIn old new was is
+      → IsTalk capacity start typed sent new is.desk
+  pub moves : (typed sent : List ℕ) (session : SessionState) (desk next : DeskState) (room : ℕ) (player : Option ℕ)
+      → session.has_ended ≡ false → (t : IsTalk capacity start typed sent session desk)
+      → IsTalk room (next_start start t.turns player) typed sent session (as_begun player next)
   pub front : (typed sent : List ℕ) (session : SessionState) (desk : DeskState)
-      → (t : IsTalk capacity greeting typed sent session desk) → IsPrefix sent (greeting ++ text_of t.turns)
+      → (t : IsTalk capacity start typed sent session desk) → IsPrefix sent (start.text ++ text_of t.turns)
   pub calls : (typed sent : List ℕ) (session : SessionState) (desk : DeskState)
-      → (t : IsTalk capacity greeting typed sent session desk) → PerformsAll capacity t.first (all_calls t.turns) desk
+      → (t : IsTalk capacity start typed sent session desk) → PerformsAll capacity t.first (all_calls t.turns) desk
 
 -- ---- versions
 

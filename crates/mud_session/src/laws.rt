@@ -6,6 +6,7 @@ ghost use Rattle.mud_hall.specs.Desk.{DeskState, TakesIn};
 ghost use Rattle.mud_hall.specs.Steps.{PerformsAll, lone_desk};
 ghost use Rattle.std.specs.Prelude.{List, ℕ};
 ghost use Rattle.mud_session.specs.State.{DoorState, SessionState};
+ghost use Rattle.mud_session.specs.Talks.{Start};
 ghost use Rattle.mud_session.specs.Feeds.{Nudges, Feeds};
 
 /// In each turn at a desk of a hall, two lists are equal. One is the desk's notices before the turn, and those of the
@@ -44,8 +45,8 @@ pub fn runs()
         → AreScript capacity turns new }
 {}
 
-/// The output of a session at a desk of a hall is a prefix of its greeting and the text of its turns, beginning with a
-/// guest's desk. This holds for any input, and whenever output is taken.
+/// The output of a session is a prefix of its greeting and the text of its turns, beginning with a guest's desk, at one
+/// hall after another. This holds for any input, and whenever output is taken.
 pub fn talks()
-    ensures { (capacity : ℕ) (greeting : List ℕ) → TalksGoOn capacity greeting }
+    ensures { (capacity : ℕ) (start : Start) → TalksGoOn capacity start }
 {}

@@ -1,6 +1,6 @@
 //! Sessions: bytes in, bytes out.
 
-ghost use Rattle.std.specs.Prelude.{◌≡◌, ℕ, List, [], false, true, if◌then◌else◌, Err, codes};
+ghost use Rattle.std.specs.Prelude.{◌≡◌, ◌≢◌, ℕ, List, [], false, true, if◌then◌else◌, Err, codes};
 ghost use Rattle.std.specs.Prelude.{OnOk, OnErr, IfOk, string_bytes};
 ghost use Rattle.mud_nvt.specs.History.{StandsAfter};
 ghost use Rattle.mud_nvt.specs.Units.{Text};
@@ -79,6 +79,14 @@ impl Session {
         ensures { result ≡ self.now.has_ended }
     {
         self.has_ended
+    }
+
+    /// Returns whether no output waits.
+    pub fn is_silent(&self) -> bool
+        ensures silent { result ≡ true → self.now.out ≡ [] }
+        ensures waits { result ≡ false → self.now.out ≢ [] }
+    {
+        self.out.is_empty()
     }
 
     /// Returns the output since the last call. It does not allocate.

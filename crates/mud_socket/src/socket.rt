@@ -7,6 +7,7 @@ use crate::options::probe;
 use crate::parting::{Ending, Parting};
 use crate::patience::Patience;
 use crate::time::now;
+use std::alloc::Global;
 use std::io::{ErrorKind, Read, Write};
 use std::net::{IpAddr, Ipv4Addr, Shutdown, SocketAddr, TcpStream};
 use std::sync::atomic::{AtomicBool, AtomicU64, Ordering};
@@ -18,6 +19,9 @@ use std::time::{Clock, Duration};
 const WRITE_SECONDS: u64 = 60;
 
 const PIECE_LEN: usize = 16_384;
+
+// The longest wait of one read or write. Between two of them a thread looks whether its session should rest.
+const SLICE_MILLISECONDS: u64 = 200;
 
 // The number of seconds that a browser has for taking the answer to its request, and one more for each such piece.
 const ANSWER_SECONDS: u64 = 10;
@@ -63,6 +67,11 @@ pub struct Socket {
     heard: AtomicU64,
     // True once the host ends the session.
     is_dismissed: AtomicBool,
+    // True while the session rests between two volumes, or is about to.
+    is_resting: AtomicBool,
+    // The text that the other side did not take before the session rested, and that comes before any other. Threads
+    // send under the session's lock, so it stays in order.
+    kept: Mutex<Vec<u8>>,
 }
 
 /// Returns an address and port, with an IPv4-mapped address as IPv4 (RFC 4291, section 2.5.5.2). So a connection has
@@ -78,27 +87,61 @@ fn time_for(seconds: u64, taken: usize) -> Duration {
     Duration::from_secs(seconds.saturating_add(more))
 }
 
-/// Sets the options of a new session's socket, whatever the listener's are. Output is sent at once, a read waits
-/// forever, and a write waits for the time of a text. A vanished peer is detected. Returns whether they could be set.
+/// Sets the options of a new session's socket, whatever the listener's are. Output is sent at once, and a read or a
+/// write waits for a slice of time. A vanished peer is detected. Returns whether they could be set.
 pub fn set_up(stream: &TcpStream) -> bool {
+    let slice = Some(Duration::from_millis(SLICE_MILLISECONDS));
     stream.set_nodelay(true).is_ok()
-        && stream.set_read_timeout(None).is_ok()
-        && stream
-            .set_write_timeout(Some(time_for(WRITE_SECONDS, 0)))
-            .is_ok()
+        && stream.set_read_timeout(slice).is_ok()
+        && stream.set_write_timeout(slice).is_ok()
         && probe(stream)
 }
 
 impl Socket {
     /// Returns the socket of a connection that came through this entrance.
-    pub fn new(stream: TcpStream, entrance: Entrance) -> Socket {
+    pub fn new(alloc: Global, stream: TcpStream, entrance: Entrance) -> Socket {
         Socket {
             stream,
             entrance,
             parting: Mutex::new(None),
             heard: AtomicU64::new(0),
             is_dismissed: AtomicBool::new(false),
+            is_resting: AtomicBool::new(false),
+            kept: Mutex::new(Vec::new(alloc)),
         }
+    }
+
+    /// Begins the rest between two volumes: a text that the other side does not take at once is kept.
+    pub fn begin_rest(&self) {
+        self.is_resting.store(true, Ordering::SeqCst);
+    }
+
+    /// Ends the rest. The kept text is sent before the next text.
+    pub fn end_rest(&self) {
+        self.is_resting.store(false, Ordering::SeqCst);
+    }
+
+    // Returns whether the session rests, or is about to.
+    fn is_resting(&self) -> bool {
+        self.is_resting.load(Ordering::SeqCst)
+    }
+
+    /// Keeps a text, which is sent before the next text. Returns false if an allocation fails.
+    pub fn keep<R: Wait>(&self, rt: &R, text: &[u8]) -> bool {
+        self.kept.lock(rt).extend_from_slice(text).is_ok()
+    }
+
+    // Takes the kept text, if there is one, with this text behind it. The error is out of memory.
+    fn take_kept<R: Wait>(&self, rt: &R, text: &[u8]) -> Result<Option<Vec<u8>>, Parting> {
+        let mut kept = self.kept.lock(rt);
+        if kept.is_empty() {
+            return Ok(None);
+        }
+        if kept.extend_from_slice(text).is_err() {
+            return Err(Parting::OutOfMemory);
+        }
+        let empty = Vec::new(*Vec::allocator(&kept));
+        Ok(Some(std::mem::replace(&mut *kept, empty)))
     }
 
     /// Returns the entrance.
@@ -150,8 +193,8 @@ impl Socket {
         }
     }
 
-    /// Reads the next bytes, and waits no longer than the patience allows. Returns the number of bytes. The error is
-    /// the reason for the end of the session; the end of the input is one too.
+    /// Reads the next bytes, and waits no longer than a slice of time. Returns the number of bytes, 0 if none came. The
+    /// error is the reason for the end of the session: the patience is over, or the input.
     pub fn read<C: Clock>(
         &self,
         clock: &C,
@@ -161,10 +204,7 @@ impl Socket {
         ensures { IfOk result (λ count. count ≤ length buffer.old) }
     {
         let mut stream = &self.stream;
-        let wait = patience.wait(now(clock))?;
-        if patience.is_limited() && stream.set_read_timeout(wait).is_err() {
-            return Err(Parting::Left);
-        }
+        patience.wait(now(clock))?;
         match stream.read(buffer) {
             Ok(0) => Err(Parting::Left),
             Ok(count) => Ok(count),
@@ -172,11 +212,6 @@ impl Socket {
             Err(error) if error.kind() == ErrorKind::WouldBlock => Ok(0),
             Err(_) => Err(Parting::Left),
         }
-    }
-
-    /// Makes a read wait forever again, unless a patience says less. Returns whether the option could be set.
-    pub fn wait_for_ever(&self) -> bool {
-        self.stream.set_read_timeout(None).is_ok()
     }
 
     /// Sends a whole text. The error is the reason for the end of the session, if the other side did not take all of
@@ -189,22 +224,27 @@ impl Socket {
         written
     }
 
-    // Writes a whole text, unless the other side is too slow or gone.
+    // Writes the kept text and a whole text, unless the other side is too slow or gone.
     fn write<R: Wait + Clock>(&self, rt: &R, text: &[u8]) -> Result<(), Parting> {
-        let start = now(rt);
-        let taken = self.write_some(text)?;
-        if taken < text.len() {
-            self.write_rest(rt, text, taken, start, WRITE_SECONDS)?;
-            self.be_patient()?;
+        match self.take_kept(rt, text)? {
+            None => self.write_whole(rt, text, WRITE_SECONDS),
+            Some(both) if self.is_resting() => self.keep_rest(rt, &both),
+            Some(both) => self.write_whole(rt, &both, WRITE_SECONDS),
         }
-        Ok(())
+    }
+
+    // Keeps the rest of a text that the other side did not take.
+    fn keep_rest<R: Wait>(&self, rt: &R, text: &[u8]) -> Result<(), Parting> {
+        if self.keep(rt, text) {
+            Ok(())
+        } else {
+            Err(Parting::OutOfMemory)
+        }
     }
 
     /// Answers a request, and ends the connection.
     pub fn answer<R: Wait + Clock>(&self, rt: &R, answer: &[u8]) {
-        if self.wait_at_most(time_for(ANSWER_SECONDS, 0)).is_ok() {
-            let _ = self.write_rest(rt, answer, 0, now(rt), ANSWER_SECONDS);
-        }
+        let _ = self.write_whole(rt, answer, ANSWER_SECONDS);
         self.drain(rt);
         self.shut();
     }
@@ -229,26 +269,28 @@ impl Socket {
         let _ = self.stream.shutdown(Shutdown::Write);
     }
 
-    // Writes the rest of a text, after `taken` bytes were taken since the start.
-    fn write_rest<R: Wait + Clock>(
+    // Writes a whole text, in slices of time. The other side has this number of seconds, and one more for each piece.
+    // If the session rests, the rest of the text after the first slice is kept.
+    fn write_whole<R: Wait + Clock>(
         &self,
         rt: &R,
         text: &[u8],
-        taken: usize,
-        start: Duration,
         seconds: u64,
     ) -> Result<(), Parting> {
-        let mut taken = taken;
+        let start = now(rt);
+        let mut taken = 0usize;
         for _ in rt.forever() {
             if taken >= text.len() {
                 return Ok(());
             }
+            taken = taken.saturating_add(self.write_some(&text[taken..])?);
+            if taken < text.len() && self.is_resting() {
+                return self.keep_rest(rt, &text[taken..]);
+            }
             let wait = time_for(seconds, taken).saturating_sub(now(rt).saturating_sub(start));
-            if wait.is_zero() {
+            if wait.is_zero() && taken < text.len() {
                 return Err(Parting::WriteTimeout);
             }
-            self.wait_at_most(wait)?;
-            taken = taken.saturating_add(self.write_some(&text[taken..])?);
         }
         unreachable!()
     }
@@ -264,19 +306,6 @@ impl Socket {
         }
     }
 
-    // Makes the next write wait for the time of a text's first byte.
-    fn be_patient(&self) -> Result<(), Parting> {
-        self.wait_at_most(time_for(WRITE_SECONDS, 0))
-    }
-
-    // Makes the next write wait this long.
-    fn wait_at_most(&self, wait: Duration) -> Result<(), Parting> {
-        match self.stream.set_write_timeout(Some(wait)) {
-            Ok(()) => Ok(()),
-            Err(_) => Err(Parting::Left),
-        }
-    }
-
     /// Sends once why the session is ended from outside, if the other side takes it soon. A second caller waits until
     /// it was sent. A session that has ended for another reason gets nothing.
     pub fn tell_ending<R: Wait>(&self, rt: &R, ending: Ending) {
@@ -285,14 +314,17 @@ impl Socket {
             return;
         }
         *first = Some(Parting::of_ending(ending));
-        self.say_last(ending.line().as_bytes());
+        self.say_last(rt, ending.line().as_bytes());
     }
 
-    /// Sends the last text, if the other side takes it soon.
-    pub fn say_last(&self, text: &[u8]) {
+    /// Sends the kept text and the last text, if the other side takes them soon.
+    pub fn say_last<R: Wait>(&self, rt: &R, text: &[u8]) {
         let mut stream = &self.stream;
         let _ = stream.set_write_timeout(Some(Duration::from_secs(ENDING_SECONDS)));
-        let _ = stream.write_all(text);
+        let _ = match self.take_kept(rt, text) {
+            Ok(Some(both)) => stream.write_all(&both),
+            _ => stream.write_all(text),
+        };
     }
 
     /// Shuts the socket, which ends a read or a write of another thread.

@@ -51,6 +51,15 @@ metrics_of s =
     ∷ counter (codes "mud_lines_waited_total") (codes "Lines that had to wait for a limit.") s.waited
     ∷ []
 
+-- the metrics of the volumes of a journal
+abbrev pub volume_metrics_of : Status → List Metric
+volume_metrics_of s =
+    gauge (codes "mud_volume") (codes "Number of the journal's volume.") s.volume
+    ∷ gauge (codes "mud_changes_taken") (codes "Changes that the world takes by itself, if most of a volume.") s.taken
+    ∷ counter (codes "mud_turns_total") (codes "Turns to a next volume.") s.turns
+    ∷ counter (codes "mud_turns_called_off_total") (codes "Turns that were called off.") s.calls_off
+    ∷ []
+
 -- the number of connections that were refused for a reason
 abbrev pub refused_text : List ℕ → ℕ → List ℕ
 refused_text why value = codes "mud_refused_total{why=\"" ++ why ++ codes "\"} " ++ decimal value ++ codes "\n"
@@ -61,6 +70,7 @@ metrics_text s =
     about_text (codes "mud_build_info") (codes "gauge") (codes "The program's version.")
     ++ codes "mud_build_info{version=\"" ++ s.version.now ++ codes "\"} 1\n"
     ++ flat_map metric_text (metrics_of s)
+    ++ flat_map metric_text (volume_metrics_of s)
     ++ about_text (codes "mud_refused_total") (codes "counter") (codes "Refused connections, by reason.")
     ++ refused_text (codes "full") s.refused_full
     ++ refused_text (codes "address") s.refused_address

@@ -42,6 +42,11 @@ rows_of s =
     ∷ row (codes "lines") s.lines
     ∷ row (codes "made") s.made
     ∷ row (codes "waited") s.waited
+    ∷ row (codes "volume") s.volume
+    ∷ row (codes "changes_taken") s.taken
+    ∷ row (codes "turns") s.turns
+    ∷ row (codes "turns_called_off") s.calls_off
+    ∷ row (codes "turn_pause_ms") s.pause_millis
     ∷ []
 
 -- the text of a status

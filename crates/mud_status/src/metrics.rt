@@ -1,7 +1,7 @@
 //! The status as metrics, in the text format of Prometheus, version 0.0.4.
 
 ghost use Rattle.std.specs.Prelude.{◌≡◌, ◌++◌, map, flat_map, IfOk, OnOk, string_bytes};
-ghost use Rattle.mud_status.specs.Metrics.{about_text, counter, gauge, metric_text, metrics_of};
+ghost use Rattle.mud_status.specs.Metrics.{about_text, counter, gauge, metric_text, metrics_of, volume_metrics_of};
 ghost use Rattle.mud_status.specs.Metrics.{refused_text, metrics_text};
 ghost use Rattle.mud_status.specs.inner.Rows.{metric_of};
 
@@ -101,6 +101,30 @@ fn metrics_of(status: &Status<'_>) -> [Metric; 14]
     ]
 }
 
+// Returns the metrics of the volumes of a journal.
+fn volume_metrics_of(status: &Status<'_>) -> [Metric; 4]
+    ensures { map metric_of result ≡ volume_metrics_of status.now }
+{
+    [
+        gauge(
+            "mud_volume",
+            "Number of the journal's volume.",
+            status.volume,
+        ),
+        gauge(
+            "mud_changes_taken",
+            "Changes that the world takes by itself, if most of a volume.",
+            status.taken,
+        ),
+        counter("mud_turns_total", "Turns to a next volume.", status.turns),
+        counter(
+            "mud_turns_called_off_total",
+            "Turns that were called off.",
+            status.calls_off,
+        ),
+    ]
+}
+
 // Appends the help text and the type of a metric.
 fn write_about(text: &mut String, name: &str, kind: &str, help: &str) -> Result<(), AllocError>
     ensures { OnOk result (string_bytes text.new ≡ string_bytes text.old ++ about_text name.now kind.now help.now) }
@@ -153,6 +177,7 @@ pub fn metrics_text(alloc: Global, status: &Status<'_>) -> Result<String, AllocE
     text.push_str(status.version)?;
     text.push_str("\"} 1\n")?;
     write_metrics(&mut text, &metrics_of(status))?;
+    write_metrics(&mut text, &volume_metrics_of(status))?;
     write_about(
         &mut text,
         "mud_refused_total",

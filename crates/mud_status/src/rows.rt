@@ -23,7 +23,7 @@ fn make_row(name: &'static str, value: u64) -> Row
 }
 
 // Returns the rows of a status.
-fn rows_of(status: &Status<'_>) -> [Row; 17]
+fn rows_of(status: &Status<'_>) -> [Row; 22]
     ensures { map line_of result ≡ rows_of status.now }
 {
     [
@@ -44,6 +44,11 @@ fn rows_of(status: &Status<'_>) -> [Row; 17]
         make_row("lines", status.lines),
         make_row("made", status.made),
         make_row("waited", status.waited),
+        make_row("volume", status.volume),
+        make_row("changes_taken", status.taken),
+        make_row("turns", status.turns),
+        make_row("turns_called_off", status.calls_off),
+        make_row("turn_pause_ms", status.pause_millis),
     ]
 }
 

@@ -52,6 +52,15 @@ pub struct Status<'a> {
     pub lines: u64,
     pub made: u64,
     pub waited: u64,
+    /// The number of the volume of the journal, and the changes that the world takes of it by itself, if it takes most
+    /// of it; otherwise 0.
+    pub volume: u64,
+    pub taken: u64,
+    /// The number of turns to a next volume, and of those that were called off. The last one is the pause of the last
+    /// turn, in milliseconds.
+    pub turns: u64,
+    pub calls_off: u64,
+    pub pause_millis: u64,
 }
 
 impl Health {

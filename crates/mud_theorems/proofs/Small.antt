@@ -22,7 +22,7 @@ use Rattle.mud_hall.proofs.Notices.{notices-none}
 use Rattle.mud_session.specs.State.{SessionState}
 use Rattle.mud_session.specs.Session.{Case, Rests, Looks, Fails, Asks, Acts, Sees, Does, Turn, Plays, unit_of}
 use Rattle.mud_session.specs.Session.{answer_to, wire_text, text_of}
-use Rattle.mud_session.specs.Talks.{greeting, units_of, IsTalk}
+use Rattle.mud_session.specs.Talks.{fresh, greeting, units_of, IsTalk}
 use Rattle.mud_web.specs.Channel.{typed_of, replies}
 use Rattle.mud_web.specs.Sending.{frame_of, frames_of}
 use Rattle.mud_web.proofs.Sending.{messages_more}
@@ -106,13 +106,13 @@ turns_quiet capacity (turn ∷ turns) old new g (mid, does, last, plays) none =
     ∙ turns_quiet capacity turns mid new here.0 plays
     (right-nil (option_to_list (unit_of turn.case)) (units_of turns) none)
 
-pub greeted : (capacity : ℕ) (session : SessionState) (desk : DeskState) → IsTalk capacity greeting [] [] session desk
-    → session.out ≡ greeting
+pub greeted : (capacity : ℕ) (session : SessionState) (desk : DeskState)
+    → IsTalk capacity (fresh greeting) [] [] session desk → session.out ≡ greeting
 greeted capacity session desk t =
     let none : units_of t.turns ≡ [] = left-nil (units_of t.turns) t.left (sym t.given) in
     let guest : IsGuest t.first = record {
-      player = ap (λ (d : DeskState). d.player) t.guest;
-      told = ap (λ (d : DeskState). d.told) t.guest;
+      player = ap (λ (d : DeskState). d.player) t.begun;
+      told = ap (λ (d : DeskState). d.told) t.begun;
     } in
     sym t.says ∙ ap (λ (xs : List ℕ). greeting ++ xs) (turns_quiet capacity t.turns t.first desk guest t.plays none)
     ∙ append-nil greeting
@@ -156,9 +156,10 @@ begun_small : (client : ClientState) → Stands [] [] client → IsSmall client.
 begun_small client s =
     let none = framed_none client.framing (s.typed ++ client.waiting) s.said s.frames in
     let typed : s.typed ≡ [] = left-nil s.typed client.waiting none.0 in
-    let talk : IsTalk client.capacity greeting [] [] client.session client.desk =
-    subst (λ (said : List ℕ). IsTalk client.capacity greeting [] said client.session client.desk) none.1
-    (subst (λ (ts : List ℕ). IsTalk client.capacity greeting ts s.said client.session client.desk) typed s.talk) in
+    let talk : IsTalk client.capacity (fresh greeting) [] [] client.session client.desk =
+    subst (λ (said : List ℕ). IsTalk client.capacity (fresh greeting) [] said client.session client.desk) none.1
+    (subst (λ (ts : List ℕ). IsTalk client.capacity (fresh greeting) ts s.said client.session client.desk) typed
+    s.talk) in
     record {
       line = line_short client.session.terminal s.typed s.talk.stands;
       out = inr (greeted client.capacity client.session client.desk talk);

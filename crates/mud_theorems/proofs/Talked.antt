@@ -15,7 +15,7 @@ use Rattle.mud_session.specs.State.{SessionState, DoorState}
 use Rattle.mud_session.specs.Session.{Case, Rests, Looks, Fails, Asks, Acts, Does, Turn, Plays, unit_of, is_last}
 use Rattle.mud_session.specs.Session.{is_over, wire_text, text_of}
 use Rattle.mud_session.specs.Feeds.{Feeds, Nudges}
-use Rattle.mud_session.specs.Talks.{units_of, IsTalk, greeting}
+use Rattle.mud_session.specs.Talks.{fresh, units_of, IsTalk, greeting}
 use Rattle.mud_session.proofs.Playing.{unit_in, Plays-append, is_over-append, text_of-append}
 use Rattle.mud_client.specs.declared.framing.Framing.{Framing}
 use Rattle.mud_client.specs.declared.framing.Framing.TheVariants.{Telnet}
@@ -64,7 +64,7 @@ fed first capacity typed sent bytes old new was is same (t, begins) f =
     let more : List Turn = f.play.turns in (
       record {
         first = t.first;
-        guest = t.guest;
+        begun = t.begun;
         turns = t.turns ++ more;
         plays = Plays-append TakesIn capacity t.first was.desk is.desk t.turns more going t.plays
             (subst (λ (n : ℕ). Plays TakesIn n was.desk more is.desk) same f.play.plays);
@@ -103,7 +103,7 @@ nudged first capacity typed sent old new was is same (t, begins) n =
     let spoken : text_of (turn ∷ []) ≡ said = append-nil (said ++ []) ∙ append-nil said in (
       record {
         first = t.first;
-        guest = t.guest;
+        begun = t.begun;
         turns = t.turns ++ turn ∷ [];
         plays = Plays-append TakesIn capacity t.first was.desk is.desk t.turns (turn ∷ []) going t.plays one;
         over = ap (λ (s : SessionState). s.has_ended) n.is ∙ n.goes_on
@@ -130,7 +130,7 @@ taken : (first : DeskState) (capacity : ℕ) (typed sent : List ℕ) (session : 
 taken first capacity typed sent session desk (t, begins) = (
   record {
     first = t.first;
-    guest = t.guest;
+    begun = t.begun;
     turns = t.turns;
     plays = t.plays;
     over = t.over;
@@ -169,9 +169,10 @@ began_new capacity loaded desk client new telnet is same s =
     let none = framed_none client.framing (s.typed ++ client.waiting) s.said s.frames in
     let typed : s.typed ≡ [] = left-nil s.typed client.waiting none.0 in
     let waiting : client.waiting ≡ [] = right-nil s.typed client.waiting none.0 in
-    let talk : IsTalk client.capacity greeting [] [] client.session client.desk =
-    subst (λ (said : List ℕ). IsTalk client.capacity greeting [] said client.session client.desk) none.1
-    (subst (λ (ts : List ℕ). IsTalk client.capacity greeting ts s.said client.session client.desk) typed s.talk) in
+    let talk : IsTalk client.capacity (fresh greeting) [] [] client.session client.desk =
+    subst (λ (said : List ℕ). IsTalk client.capacity (fresh greeting) [] said client.session client.desk) none.1
+    (subst (λ (ts : List ℕ). IsTalk client.capacity (fresh greeting) ts s.said client.session client.desk) typed
+    s.talk) in
     let silent : units_of talk.turns ≡ [] = left-nil (units_of talk.turns) talk.left (sym talk.given) in
     let out = greeted client.capacity client.session client.desk talk in
     let here : client.desk ≡ desk = is ∙ guest_still loaded desk new in
@@ -182,7 +183,7 @@ began_new capacity loaded desk client new telnet is same s =
       talk = (
         record {
           first = client.desk;
-          guest = is ∙ sym (ap as_guest is);
+          begun = is ∙ sym (ap as_guest is);
           turns = [];
           plays = refl;
           over = talk.over ∙ open_turns talk.turns silent;

@@ -5,7 +5,7 @@ use mathlib.Core.List.{IsPrefix}
 use Rattle.mud_chron.specs.Entry.{Entry}
 use Rattle.mud_hall.specs.Desk.{DeskState, IsNew}
 use Rattle.mud_session.specs.State.{SessionState}
-use Rattle.mud_session.specs.Talks.{IsTalk, greeting}
+use Rattle.mud_session.specs.Talks.{fresh, IsTalk, greeting}
 use Rattle.mud_client.specs.declared.framing.Framing.TheVariants.{Telnet}
 use Rattle.mud_client.specs.declared.outgoing.End.{End}
 use Rattle.mud_client.specs.declared.outgoing.End.TheVariants.{Quit}
@@ -26,7 +26,7 @@ so_far came sent = record { came = came; sent = sent; has_ended = false; has_lef
 -- a talk that began at this desk
 abbrev pub TalkFrom : DeskState → ℕ → List ℕ → List ℕ → SessionState → DeskState → Type 0
 TalkFrom first capacity typed output session desk =
-    (talk : IsTalk capacity greeting typed output session desk) × (talk.first ≡ first)
+    (talk : IsTalk capacity (fresh greeting) typed output session desk) × (talk.first ≡ first)
 
 -- a client that began at a new desk; it received these bytes, and this is its output
 pub record Began (capacity : ℕ) (loaded : List Entry) (came output : List ℕ) (client : ClientState) : Type 0 where

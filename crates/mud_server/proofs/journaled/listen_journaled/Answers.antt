@@ -40,8 +40,8 @@ returns-in_err-write_ports-clause-fault g c =
     (write_fault c.args.limits.capacity c.args.loaded.items c.args.out.now c.write_ports.new.out
     c.in_err-write_ports.field-0.0 c.in_err-write_ports.ensures.fault)
 
-pub serve-requires-clause-holds : goal.serve-requires-clause-holds
-serve-requires-clause-holds g c κs within =
+pub serve_volume-requires-clause-holds : goal.serve_volume-requires-clause-holds
+serve_volume-requires-clause-holds g c κs within =
     let n = c.args.found.count in
     let loaded = c.args.loaded.items in
     let same : c.in_ok-more.more.items ≡ drop n loaded = search (rules, places) in
@@ -50,38 +50,52 @@ serve-requires-clause-holds g c κs within =
     all_loaded _ n loaded c.deref-4.result.now c.in_ok-hall.hall.loaded held
     (subst (λ l. l ≡ drop n loaded) (sym c.deref-4.ensures.value) same) c.in_ok-hall.ensures.loaded
 
-pub returns-in_err-history-clause-front : goal.returns-in_err-history-clause-front
-returns-in_err-history-clause-front g c =
+pub returns-in_err-company-clause-front : goal.returns-in_err-company-clause-front
+returns-in_err-company-clause-front g c =
     let lines = opened _ c.in_ok-ports.ports.telnet c.in_ok-ports.ports.web c.in_ok-ports.ensures.named in
-    any_err c.from_residual-in_err-history.result
+    any_err c.from_residual-in_err-company.result
     (line_written _ _ lines _ _ _ c.in_ok-write_ports.ensures.ok)
 
-pub returns-in_err-history-clause-fault : goal.returns-in_err-history-clause-fault
-returns-in_err-history-clause-fault g c =
+pub returns-in_err-company-clause-fault : goal.returns-in_err-company-clause-fault
+returns-in_err-company-clause-fault g c =
     let fault
     : IsServerFault c.args.limits.capacity c.args.loaded.items c.args.out.now c.write_ports.new.out
-    c.in_err-history.field-0.0 =
-    c.in_err-history.ensures.fault c.args.limits.capacity c.args.loaded.items c.args.out.now c.write_ports.new.out in
+    c.in_err-company.field-0.0 =
+    c.in_err-company.ensures.fault c.args.limits.capacity c.args.loaded.items c.args.out.now c.write_ports.new.out in
+    search rules
+
+pub returns-in_err-ended-clause-front : goal.returns-in_err-ended-clause-front
+returns-in_err-ended-clause-front g c =
+    let lines = opened _ c.in_ok-ports.ports.telnet c.in_ok-ports.ports.web c.in_ok-ports.ensures.named in
+    any_err c.from_residual-in_err-ended.result
+    (line_written _ _ lines _ _ _ c.in_ok-write_ports.ensures.ok)
+
+pub returns-in_err-ended-clause-fault : goal.returns-in_err-ended-clause-fault
+returns-in_err-ended-clause-fault g c =
+    let fault
+    : IsServerFault c.args.limits.capacity c.args.loaded.items c.args.out.now c.write_ports.new.out
+    c.in_err-ended.field-0.0 =
+    c.in_err-ended.ensures.fault c.args.limits.capacity c.args.loaded.items c.args.out.now c.write_ports.new.out in
     search rules
 
 pub returns-in_err-write_entries-clause-front : goal.returns-in_err-write_entries-clause-front
 returns-in_err-write_entries-clause-front g c =
-    let ends = end_of _ _ _ _ c.in_ok-hall.ensures.loaded c.in_ok-history.ensures.ends in
+    let ends = end_of _ _ _ _ c.in_ok-hall.ensures.loaded c.in_ok-ended.ensures.ends in
     let front = c.in_err-write_entries.ensures.front in
     let lines = opened _ c.in_ok-ports.ports.telnet c.in_ok-ports.ports.web c.in_ok-ports.ensures.named in
     any_err c.from_residual-in_err-write_entries.result
     (part_written _ _ lines front.0 _ _ _ _ _ ends c.in_ok-write_ports.ensures.ok front.1)
 
-pub returns-then-is_well-clause-ok : goal.returns-then-is_well-clause-ok
-returns-then-is_well-clause-ok g c =
-    let ends = end_of _ _ _ _ c.in_ok-hall.ensures.loaded c.in_ok-history.ensures.ends in
+pub returns-then-is_well_ended-clause-ok : goal.returns-then-is_well_ended-clause-ok
+returns-then-is_well_ended-clause-ok g c =
+    let ends = end_of _ _ _ _ c.in_ok-hall.ensures.loaded c.in_ok-ended.ensures.ends in
     let lines = opened _ c.in_ok-ports.ports.telnet c.in_ok-ports.ports.web c.in_ok-ports.ensures.named in
     all_journaled _ _ lines _ _ _ _ _ _ ends c.in_ok-write_ports.ensures.ok c.in_ok-write_entries.ensures.ok
-    c.in_ok-history.ensures.journaled
+    c.in_ok-ended.ensures.journaled
 
 pub returns-clause-front : goal.returns-clause-front
 returns-clause-front g c =
-    let ends = end_of _ _ _ _ c.in_ok-hall.ensures.loaded c.in_ok-history.ensures.ends in
+    let ends = end_of _ _ _ _ c.in_ok-hall.ensures.loaded c.in_ok-ended.ensures.ends in
     let lines = opened _ c.in_ok-ports.ports.telnet c.in_ok-ports.ports.web c.in_ok-ports.ensures.named in
     whole_written _ _ lines _ _ _ _ _ ends c.in_ok-write_ports.ensures.ok c.in_ok-write_entries.ensures.ok
 

@@ -1,4 +1,4 @@
-use Rattle.std.proofs.Common.{◌≡◌, length, sym, subst, arith}
+use Rattle.std.proofs.Common.{◌≡◌, ◌∙◌, length, sym, subst, arith}
 use Rattle.mud_hall.specs.Settlement.{IsGathered}
 use Rattle.mud_journal.specs.Disk.{Holds}
 use Rattle.mud_server_end.proofs.Keeping.{prefix_trans, all_there}
@@ -13,6 +13,11 @@ returns-clause-journaled g c =
     let made : IsGathered loaded c.args.desks.items history =
     subst (λ ds. IsGathered loaded ds history) c.finish.ensures.same c.in_ok-history.ensures.settled.gathered in
     let begun = prefix_trans loaded c.args.writer.entries list c.requires.begun c.finish.ensures.longer in
-    subst (λ k. Holds k history) (sym c.into_journal.ensures)
+    subst (λ k. Holds k history) (sym c.into_journal.ensures.kept)
     (all_there loaded list history c.args.desks.items c.finish.new.self.kept begun c.in_ok-finish.ensures.gathered made
     long c.in_ok-finish.ensures.holds)
+
+pub returns-clause-count : goal.returns-clause-count
+returns-clause-count g c =
+    let long : length c.in_ok-history.history ≡ length c.finish.new.self.entries = omega arith in
+    c.into_journal.ensures.count c.in_ok-finish.ensures.going ∙ sym long

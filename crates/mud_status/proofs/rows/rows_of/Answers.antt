@@ -21,4 +21,9 @@ returns c =
       c.make_row-15.ensures,
       c.make_row-16.ensures,
       c.make_row-17.ensures,
+      c.make_row-18.ensures,
+      c.make_row-19.ensures,
+      c.make_row-20.ensures,
+      c.make_row-21.ensures,
+      c.make_row-22.ensures,
     ) refl

@@ -52,7 +52,7 @@ returns-in-Err-clause-step g c =
     c.in-Err.ensures.over over.0 over.1 over.2) (λ none. none) c.cut_off.ensures.over)
 
 pub returns-in-Err-clause-stands : goal.returns-in-Err-clause-stands
-returns-in-Err-clause-stands g c came sent s =
+returns-in-Err-clause-stands g c start came sent s =
     match_end c.cut_off.result.1.end (λ done. absurd done) (λ e is over. tt) (λ none. tt) c.cut_off.ensures.over
 
 -- the replies are the output
@@ -99,11 +99,11 @@ returns-then-not-is_empty-clause-step g c =
     (replied g (goal.at.returns-then-not-is_empty-clause-step g c).After-give)
 
 pub returns-then-not-is_empty-clause-stands : goal.returns-then-not-is_empty-clause-stands
-returns-then-not-is_empty-clause-stands g c came sent s =
+returns-then-not-is_empty-clause-stands g c start came sent s =
     let new = c.give.result.0 in
     let out = output_of c.give.result.1 in
     let bytes = c.args.bytes.now in
-    step_stands bytes came sent c.args.self new out
+    step_stands start bytes came sent c.args.self new out
     (subst (λ (e : Option End). MatchEnd e (Steps bytes c.args.self new out)
     (λ e. CutsOff bytes e c.args.self new out) (out.text ≡ [])) (sym c.give.ensures.end)
     (replied g (goal.at.returns-then-not-is_empty-clause-stands g c).After-give)) s
@@ -135,6 +135,6 @@ pub returns-in-Ok-clause-step : goal.returns-in-Ok-clause-step
 returns-in-Ok-clause-step g c = said g (goal.at.returns-in-Ok-clause-step g c).After-say
 
 pub returns-in-Ok-clause-stands : goal.returns-in-Ok-clause-stands
-returns-in-Ok-clause-stands g c came sent s =
-    step_stands c.args.bytes.now came sent c.args.self c.say.result.0 (output_of c.say.result.1)
+returns-in-Ok-clause-stands g c start came sent s =
+    step_stands start c.args.bytes.now came sent c.args.self c.say.result.0 (output_of c.say.result.1)
     (said g (goal.at.returns-in-Ok-clause-stands g c).After-say) s

@@ -1,8 +1,8 @@
 use denote.Param.Send.{sendable}
 use Rattle.std.proofs.Crossing.{crosses}
-use Rattle.mud_server_threads.proofs.Crosses.{start_send, server_send}
+use Rattle.mud_server_threads.proofs.Crosses.{post_send, server_send}
 use Rattle.mud_server_threads.proofs.server.Server.begin_reading.Goals as goal
 
 pub spawn-reading-requires-send-F : goal.spawn-reading-requires-send-F
 spawn-reading-requires-send-F g c κs within =
-    search (server_send, start_send, c.type_bounds, sendable, crosses) depth 60 fits 20000
+    search (server_send, post_send, c.type_bounds, sendable, crosses) depth 60 fits 20000

@@ -1,0 +1,3 @@
+mod Texts
+mod Compared
+mod Stays

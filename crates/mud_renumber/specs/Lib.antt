@@ -1,0 +1,4 @@
+pub mod Renumbered
+pub mod Numbers
+pub mod Answer
+pub mod inner

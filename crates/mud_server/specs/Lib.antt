@@ -1,0 +1,4 @@
+pub mod MayBegin
+pub mod Marks
+pub mod Volumes
+pub mod inner

@@ -33,7 +33,9 @@ BATCH, ASKS = 50, 400
 ROUND_SECONDS, PAUSE = (20, 60), 0.2
 SAID = re.compile(rb"\[(\d+)\] said")
 PROOF = re.compile(rb"\[(\d+)\] proof")
-SAYERS = re.compile(r"\d+ \((say|go|dig|player) .*\) was answered to nobody$")
+IN = re.compile(rb"\[\d+\] welcome #(\d+)")
+# The judge's words about a change of a client that it does not know.
+SOMEBODY = re.compile(r'\d+ \((?:player #\d+ "S\d+"|[a-z]+ #(\d+) .*)\) was answered to nobody')
 SHOWN = 4
 
 
@@ -46,7 +48,7 @@ class Sayer(threading.Thread):
     def __init__(self, client, number, volume):
         super().__init__(daemon=True)
         self.client, self.number, self.volume, self.last = client, number, volume, 0
-        self.told, self.proofs, self.faults, self.count = [], [], [], 0
+        self.told, self.proofs, self.faults, self.count, self.player = [], [], [], 0, None
 
     def line(self):
         """Returns the next line. Notes the number of a volume, and does not return it."""
@@ -69,7 +71,7 @@ class Sayer(threading.Thread):
 
     def settle(self):
         """Connects, and goes to its room, which it digs if there is none."""
-        self.ask(b"connect S%d" % self.number)
+        self.player = int(IN.fullmatch(self.ask(b"connect S%d" % self.number))[1])
         if b"Den%d" % self.number in self.ask(b"look"):
             return
         if not self.ask(b"go den%d" % self.number).endswith(b"Den%d" % self.number):
@@ -137,7 +139,7 @@ def say_all(first, volume, port, web, ended_round, files_of, results):
     ended_round.wait()
     faults = [fault for sayer in sayers for fault in sayer.faults] + why_lost(sayers, files_of())
     proofs = [proof for sayer in sayers for proof in sayer.proofs]
-    results.put((sum(len(sayer.told) for sayer in sayers), faults, proofs))
+    results.put((sum(len(sayer.told) for sayer in sayers), faults, proofs, {sayer.player for sayer in sayers}))
 
 
 # ---- players of the crowd
@@ -192,7 +194,7 @@ class Endless:
 
     def __init__(self, shelf):
         self.shelf, self.changes, self.faults, self.pauses = shelf, 0, [], []
-        self.proofs, self.sessions = defaultdict(list), []
+        self.proofs, self.sessions, self.sayers = defaultdict(list), [], set()
 
     def play(self, seconds):
         """Plays a round, and kills the server after this time."""
@@ -223,9 +225,10 @@ class Endless:
             wanderer.join()
         self.sessions += [(wanderer.visit.session, wanderer.volume) for wanderer in wanderers]
         for _ in crowd:
-            changes, faults, proofs = results.get(timeout=10 * SECONDS)
+            changes, faults, proofs, players = results.get(timeout=10 * SECONDS)
             self.changes += changes
             self.faults += faults
+            self.sayers |= players
             for volume, proof in proofs:
                 self.proofs[volume].append(proof)
         for process in crowd:
@@ -233,19 +236,35 @@ class Endless:
         self.pauses += [int(turn[5]) for line in logged if (turn := TURN.fullmatch(line))]
 
 
+def talk_copied(old, new, version):
+    """Returns how many of the last entries of a volume the next one has after this version. The chain goes on at the
+    first version with the same world, and talk leaves a world as it is."""
+    old, new = ([line.split(b" ", 1)[1] for line in entries_of(read(path))] for path in (old, new))
+    after = new[version:]
+    begins = (at for at, line in enumerate(old) if [line] == after[:1] and old[at:] == after[:len(old) - at])
+    return len(old) - next(begins, len(old))
+
+
 def begun_of(files):
     """Returns the number of changes with which each volume began."""
     def begun(number):
-        told = kept("chain", read(files[number - 1]), "--journal", "-", files[number])[1]
-        return number, int(GOES_ON.fullmatch(told)[1])
+        old, new = files[number - 1], files[number]
+        version = int(GOES_ON.fullmatch(kept("chain", read(old), "--journal", "-", new)[1])[1])
+        return number, version + talk_copied(old, new, version)
     with ThreadPoolExecutor(os.cpu_count()) as threads:
         return {1: 0, **dict(threads.map(begun, list(files)[1:]))}
 
 
-def judged(path, sessions, begun):
+def is_said(fault, sayers):
+    """Returns whether the fault is a change of a client that says things, which the judge does not know."""
+    found = SOMEBODY.fullmatch(fault)
+    return bool(found) and (found[1] is None or int(found[1]) in sayers)
+
+
+def judged(path, sessions, begun, sayers):
     """Returns the faults that the judge finds in a volume, and the certificates of its players."""
     faults, proofs = judge(ended(read(path)).decode(), sessions, loaded=begun)
-    return [fault for fault in faults if not SAYERS.search(fault)], [proof.encode() for proof in proofs]
+    return [fault for fault in faults if not is_said(fault, sayers)], [proof.encode() for proof in proofs]
 
 
 def refused_of(path, proofs):
@@ -261,7 +280,7 @@ def judge_all(count, endless):
         for at, piece in pieces_of(session, volume, begun).items():
             pieces[at].append(piece)
     with ProcessPoolExecutor() as pool:
-        found = {at: pool.submit(judged, files[at], some, begun[at]) for at, some in pieces.items()}
+        found = {at: pool.submit(judged, files[at], some, begun[at], endless.sayers) for at, some in pieces.items()}
         faults = [f"volume {at}: {fault}" for at, one in found.items() for fault in one.result()[0]]
         for at, one in found.items():
             endless.proofs[at] += one.result()[1]

@@ -50,7 +50,7 @@ class Judge:
             if version is None:
                 if text == FULL:
                     self.answers[self.capacity].append(reply)
-            elif not self.loaded < version <= len(self.entries) or text in REFUSALS.values() or self.asks(reply):
+            elif not self.loaded < version <= len(self.entries) or text in REFUSALS.values() or self.asks(reply.line):
                 self.answers[version].append(reply)
             elif WELCOME.fullmatch(text):
                 arrivals.append(reply)
@@ -70,9 +70,9 @@ class Judge:
                 self.answers[reply.version].append(reply)
 
     @staticmethod
-    def asks(reply):
-        """Returns whether it answers a question."""
-        return reply.line.split(" ", 1)[0].lower() in QUESTIONS
+    def asks(line):
+        """Returns whether the line is a question."""
+        return line.split(" ", 1)[0].lower() in QUESTIONS
 
     def claim(self, reply):
         """Claims an entry as the accepted line of this session."""
@@ -166,11 +166,15 @@ class Judge:
         """Returns whether the change belongs to a line whose answer was lost with its session; each such line counts
         once."""
         for reading in self.readings:
-            if reading.left is not None and reading.session.is_broken:
-                if decide(world, reading.player, reading.left) == ("change", change):
-                    reading.left = None
-                    return True
+            if self.may_change(world, reading) and decide(world, reading.player, reading.left) == ("change", change):
+                reading.left = None
+                return True
         return False
+
+    def may_change(self, world, reading):
+        """Returns whether the line whose answer was lost with its session may make a change in this world."""
+        is_lost = reading.left is not None and reading.session.is_broken and not self.asks(reading.left)
+        return is_lost and (reading.player is None or reading.player in world.all)
 
 
 def judge(history, sessions, **more):

@@ -76,10 +76,11 @@ class Said:
         return f"status {self.status}: {'; '.join(line[:200] for line in [*reasons[:2], self.lines[-1]])}"
 
 
-def check_function(crate, function, folder):
+def check_function(crate, function, folder, kept):
     """Returns the prover's report on a function of a crate whose files are in this folder, with the functions that it
-    calls there."""
-    return checked(run().words_over(crates(), crate, functools.partial(rlib_at, place_below(crate))), function, folder)
+    calls there. It begins with what earlier checks of the crate left in the folder `kept`, and adds to it."""
+    words = run().words_over(crates(), crate, functools.partial(rlib_at, place_below(crate)))
+    return checked([*words, "--incremental", kept], function, folder)
 
 
 def check_own(name, like, function, folder):

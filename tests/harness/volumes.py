@@ -8,6 +8,7 @@ import collections
 import os
 import random
 import re
+import subprocess
 import tempfile
 import threading
 import time
@@ -19,6 +20,7 @@ from harness.journal import Place, ended
 from harness.keep import kept
 from harness.parts import part
 from harness.preload import library
+from harness.recipes import blocks
 from harness.server import Client
 from harness.web import WebServer
 
@@ -597,10 +599,31 @@ def crashes(count, rounds, clients, capacity):
         print(f"volumes: {len(shelf.files())} volumes, {len(told.texts)} versions told", flush=True)
 
 
+# ---- copies
+
+
+def why_copied():
+    """The command of docs/HOSTING.md copies and syncs each volume, the oldest first, and no other file."""
+    volumes = ["world.journal", "world.journal.2", "world.journal.10"]
+    with tempfile.TemporaryDirectory() as folder:
+        os.mkdir(f"{folder}/backup")
+        for name in (*volumes, "world.journal.3.gz", "world.journal.new", "sync"):
+            with open(f"{folder}/{name}", "w", encoding="ascii") as file:
+                file.write('#!/bin/sh\necho "$1" >>synced\n' if name == "sync" else name)
+        os.chmod(f"{folder}/sync", 0o700)
+        environment = {**os.environ, "PATH": f"{folder}:{os.environ['PATH']}"}
+        subprocess.run(["sh", "-c", blocks()["volumes"]], cwd=folder, env=environment, check=True)
+        synced = read(f"{folder}/synced").decode().split()
+        copied = {name: read(f"{folder}/backup/{name}").decode() for name in os.listdir(f"{folder}/backup")}
+        right = synced == [f"backup/{name}" for name in volumes] and copied == {name: name for name in volumes}
+        return "" if right else f"{synced} {copied}"
+
+
 @part("volumes", "a server turns to its next volume, and nobody is dropped or misses anything")
 def volumes(count):
     for name, why in (("half a line, and lines that wait", why_half_typed), ("newcomers", why_newcomer),
-                      ("a large world", why_large), ("a turn that is called off", why_called_off)):
+                      ("a large world", why_large), ("a turn that is called off", why_called_off),
+                      ("a copy of all", why_copied)):
         count.tries(f"volumes: {name}", why)
     for entrance, by_web in (("Telnet", False), ("web", True)):
         count.tries(f"volumes: a player who does not read, by {entrance}", why_slow_reader, by_web)

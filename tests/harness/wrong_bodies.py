@@ -4,6 +4,7 @@ its proof, by its name as the prover prints it, or the end of that. A try checks
 its crate that it calls, so it costs a fraction. `tried: ` says when to try it: `in the gate`, or `on demand`."""
 import functools
 import glob
+import itertools
 import os
 import re
 import shutil
@@ -119,30 +120,42 @@ def plantable(count):
 # ---- is it refused
 
 
-def tried(edit, texts):
-    """Returns the prover's report on the function of an edit, with these texts in place of the crate's."""
+def tried(edit, texts, kept):
+    """Returns the prover's report on the function of an edit, with these texts in place of the crate's. It begins with
+    what earlier tries of the crate left in the folder `kept`."""
     with tempfile.TemporaryDirectory(prefix="wrong-body-") as folder:
         for one in filter(lambda one: os.path.isdir(f"{TOP}/crates/{edit.crate()}/{one}"), run().PARTS):
             shutil.copytree(f"{TOP}/crates/{edit.crate()}/{one}", f"{folder}/{one}")
         for file, text in texts.items():
             with open(f"{folder}/{file}", "w", encoding="utf-8") as planted:
                 planted.write(text)
-        return check_function(edit.crate(), edit.function, folder)
+        return check_function(edit.crate(), edit.function, folder, kept)
 
 
-def planted(edit):
-    texts, _ = edit.texts()
-    return tried(edit, texts)
+def planted(group):
+    """Returns the reports on the edits of a crate. They are tried one after the other: they have most of a check in
+    common."""
+    with tempfile.TemporaryDirectory(prefix="kept-checks-") as kept:
+        return [(edit, tried(edit, edit.texts()[0], kept)) for edit in group]
+
+
+def right(edit):
+    """Returns the prover's report on the function of an edit as it stands, after a try of the edit."""
+    with tempfile.TemporaryDirectory(prefix="kept-checks-") as kept:
+        tried(edit, edit.texts()[0], kept)
+        return tried(edit, {}, kept)
 
 
 def count_refusals(count, chosen):
     """Counts a test for each edit, and one for the first edit's function as it stands, which the same words must
     prove."""
+    groups = [list(group) for _, group in itertools.groupby(chosen, Edit.crate)]
     with ThreadPoolExecutor(run().lanes()) as threads:
-        right = threads.submit(tried, chosen[0], {})
-        for edit, said in zip(chosen, threads.map(planted, chosen)):
+        as_it_stands = threads.submit(right, chosen[0])
+        for edit, said in itertools.chain.from_iterable(threads.map(planted, groups)):
             count(f"wrong body: {edit.name()}", said.finds_no_proof(), said.shown())
-        count(f"as it stands: {chosen[0].function}", right.result().is_proved(), right.result().shown())
+        said = as_it_stands.result()
+        count(f"as it stands: {chosen[0].function}", said.is_proved(), said.shown())
 
 
 @part("wrong-bodies", "the prover refuses each wrong body that is tried in the gate", wants_proof=True)

@@ -207,7 +207,7 @@ fn keep_journal<
     requires from { 1 ≤ limits.capacity }
     requires to { limits.capacity ≤ MOST_ENTRIES }
 {
-    let Ok((mut folder, journal)) = folder_of(rt, name) else {
+    let Ok((folder, journal)) = folder_of(rt, name) else {
         return Err(Stop::OutOfMemory);
     };
     let found = match find_volume(rt.alloc(), &folder, journal) {
@@ -216,13 +216,13 @@ fn keep_journal<
     };
     // under the lock of the volume, so no other server is making the next one
     let _ = folder.clear(journal);
-    keep_volumes(rt, listening, limits, hosting, &mut folder, journal, found)
+    keep_volumes(rt, listening, limits, hosting, folder, journal, found)
 }
 
 // Serves connections, beginning with the volume that was found. It is generic in the folder: the prover's borrow
 // checker does not accept the journal's file beside a value that lives forever, such as the page.
 fn keep_volumes<
-    S: Shelf,
+    S: Shelf + Drop,
     R: Runtime
         + AllocGlobal
         + Threads
@@ -236,7 +236,7 @@ fn keep_volumes<
     listening: Listening<'_>,
     limits: mud_server::Limits,
     hosting: Hosting<'_>,
-    shelf: &mut S,
+    shelf: S,
     name: &str,
     found: FoundVolume<S::Disk>,
 ) -> Result<(), Stop>

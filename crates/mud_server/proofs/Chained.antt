@@ -1,11 +1,12 @@
 -- The volumes of a server, one after another.
-use Rattle.std.proofs.Common.{◌≡◌, ◌⊎◌, inl, inr, List, [], ◌∷◌, ◌++◌, Option, refl, sym, ◌∙◌, subst}
+use Rattle.std.proofs.Common.{◌≡◌, ◌⊎◌, inl, inr, List, [], ◌∷◌, ◌++◌, map, Option, Some, None, option_map}
+use Rattle.std.proofs.Common.{refl, sym, ◌∙◌, subst, ap}
 use Rattle.mud_chron.specs.Entry.{Entry}
 use Rattle.mud_journal.specs.Disk.{Kept, Holds}
 use Rattle.mud_server_state.specs.declared.limits.Limits.{Limits}
 use Rattle.mud_server_end.specs.Server.{MayEnd}
 use Rattle.mud_server.specs.MayBegin.{MayBegin}
-use Rattle.mud_server.specs.Volumes.{Volume, MayLast, Once, Again, IsWhole, AreVolumes, First, Next}
+use Rattle.mud_server.specs.Volumes.{Volume, MayLast, Once, Again, IsWhole, AreVolumes, First, Next, Files, Finishes}
 use Rattle.mud_server.specs.inner.Between.{MayTurn, MayFollow, MayClose}
 
 -- ---- one volume
@@ -19,51 +20,85 @@ pub lasts : (limits : Limits) (begun now ended : List Entry) → HasLasted limit
 lasts limits begun now ended (inl is) ends = Once ended (subst (λ (l : List Entry). MayEnd limits l ended) is ends)
 lasts limits begun now ended (inr so) ends = Again now ended so ends
 
-pub turns : (limits : Limits) (begun now ended next : List Entry) (kept : Option Kept) → HasLasted limits begun now
-    → MayEnd limits now ended → Holds kept ended → MayBegin ended next → MayTurn limits begun next
-turns limits begun now ended next kept so ends holds begins = record {
+-- ---- finished files
+
+pub finishes_none : (files : Files) → Finishes [] files files
+finishes_none None = refl
+finishes_none (Some files) = refl
+
+-- a volume is finished after others
+finishes_next : (volume : Volume) (earlier : List Volume) (old mid new : Files) → Finishes earlier old mid
+    → Finishes (volume ∷ []) mid new → Finishes (volume ∷ earlier) old new
+finishes_next volume earlier None mid new one two = two ∙ ap (option_map (λ files. volume.kept ∷ files)) one
+finishes_next volume earlier (Some files) mid new one two = two ∙ ap (option_map (λ f. volume.kept ∷ f)) one
+
+-- the files of volumes after a first one
+after_first : (volume : Volume) (later : List Volume) (files : List (Option Kept))
+    → map (λ (v : Volume). v.kept) later ++ (volume.kept ∷ files)
+    ≡ map (λ (v : Volume). v.kept) (later ++ (volume ∷ [])) ++ files
+after_first volume [] files = refl
+after_first volume (v ∷ later) files = ap (λ f. v.kept ∷ f) (after_first volume later files)
+
+-- a volume is finished before others
+finishes_first : (volume : Volume) (later : List Volume) (old mid new : Files) → Finishes (volume ∷ []) old mid
+    → Finishes later mid new → Finishes (later ++ (volume ∷ [])) old new
+finishes_first volume later None mid new one two =
+    two ∙ ap (option_map (λ files. map (λ (v : Volume). v.kept) later ++ files)) one
+finishes_first volume later (Some files) mid new one two =
+    two ∙ ap (option_map (λ f. map (λ (v : Volume). v.kept) later ++ f)) one ∙ ap Some (after_first volume later files)
+
+pub turns : (limits : Limits) (begun now ended next : List Entry) (kept : Option Kept) (old mid new : Files)
+    → HasLasted limits begun now → MayEnd limits now ended → Holds kept ended → MayBegin ended next → mid ≡ old
+    → new ≡ option_map (λ files. kept ∷ files) mid → MayTurn limits begun next old new
+turns limits begun now ended next kept old mid new so ends holds begins same finished = record {
   volume = record { begun = begun; ended = ended; kept = kept };
   from = refl;
   whole = record { lasts = lasts limits begun now ended so ends; holds = holds };
   begins = begins;
+  finishes = finished ∙ ap (option_map (λ files. kept ∷ files)) same;
 }
 
 -- ---- one volume after another
 
 -- the next volume of a server begins with these entries: it is the first one, or follows from the last one
-abbrev pub HasFollowed : Limits → List Entry → List Entry → Type 0
-HasFollowed limits loaded now = (now ≡ loaded) ⊎ MayFollow limits loaded now
+abbrev pub HasFollowed : Limits → List Entry → List Entry → Files → Files → Type 0
+HasFollowed limits loaded now old new = ((now ≡ loaded) × (new ≡ old)) ⊎ MayFollow limits loaded now old new
 
-pub follows : (limits : Limits) (loaded now next : List Entry) → HasFollowed limits loaded now
-    → MayTurn limits now next → MayFollow limits loaded next
-follows limits loaded now next (inl is) t = record {
+pub follows : (limits : Limits) (loaded now next : List Entry) (old mid new : Files)
+    → HasFollowed limits loaded now old mid → MayTurn limits now next mid new → MayFollow limits loaded next old new
+follows limits loaded now next old mid new (inl (is, same)) t = record {
   earlier = [];
   last = t.volume;
   are = First t.volume (t.from ∙ is) t.whole;
   begins = t.begins;
+  finishes = subst (λ (files : Files). Finishes (t.volume ∷ []) files new) same t.finishes;
 }
-follows limits loaded now next (inr f) t = record {
+follows limits loaded now next old mid new (inr f) t = record {
   earlier = f.last ∷ f.earlier;
   last = t.volume;
   are = Next f.earlier f.last t.volume f.are
       (subst (λ (l : List Entry). MayBegin f.last.ended l) (sym t.from) f.begins) t.whole;
   begins = t.begins;
+  finishes = finishes_next t.volume (f.last ∷ f.earlier) old mid new f.finishes t.finishes;
 }
 
-pub closes : (limits : Limits) (loaded now history : List Entry) (kept : Option Kept) → HasFollowed limits loaded now
-    → MayLast limits now history → Holds kept history → MayClose limits loaded kept history
-closes limits loaded now history kept (inl is) lasts holds = record {
+pub closes : (limits : Limits) (loaded now history : List Entry) (old mid new : Files) (kept : Option Kept)
+    → HasFollowed limits loaded now old mid → MayLast limits now history → Holds kept history → new ≡ mid
+    → MayClose limits loaded old new kept history
+closes limits loaded now history old mid new kept (inl (is, same)) lasts holds still = record {
   begun = now;
   earlier = [];
   are = First (record { begun = now; ended = history; kept = kept }) is (record { lasts = lasts; holds = holds });
   holds = holds;
+  finishes = subst (Finishes [] old) (sym (still ∙ same)) (finishes_none old);
 }
-closes limits loaded now history kept (inr f) lasts holds = record {
+closes limits loaded now history old mid new kept (inr f) lasts holds still = record {
   begun = now;
   earlier = f.last ∷ f.earlier;
   are = Next f.earlier f.last (record { begun = now; ended = history; kept = kept }) f.are f.begins
       (record { lasts = lasts; holds = holds });
   holds = holds;
+  finishes = still ∙ f.finishes;
 }
 
 -- a volume before others
@@ -76,11 +111,13 @@ before volume from whole begins (First first is one) =
 before volume from whole begins (Next earlier last next are after one) =
     Next (earlier ++ (volume ∷ [])) last next (before volume from whole begins are) after one
 
-pub closes_later : (limits : Limits) (loaded next history : List Entry) (kept : Option Kept)
-    → MayTurn limits loaded next → MayClose limits next kept history → MayClose limits loaded kept history
-closes_later limits loaded next history kept t c = record {
+pub closes_later : (limits : Limits) (loaded next history : List Entry) (old mid new : Files) (kept : Option Kept)
+    → MayTurn limits loaded next old mid → MayClose limits next mid new kept history
+    → MayClose limits loaded old new kept history
+closes_later limits loaded next history old mid new kept t c = record {
   begun = c.begun;
   earlier = c.earlier ++ (t.volume ∷ []);
   are = before t.volume t.from t.whole t.begins c.are;
   holds = c.holds;
+  finishes = finishes_first t.volume c.earlier old mid new t.finishes c.finishes;
 }

@@ -10,25 +10,26 @@ use Rattle.mud_chron.specs.declared.format.Format.TheVariants.{Two}
 use Rattle.mud_journal.specs.Disk.{Kept}
 use Rattle.mud_server_state.specs.declared.limits.Limits.{Limits}
 use Rattle.mud_server_end.specs.Server.{Opening, lines_of}
-use Rattle.mud_server.specs.Volumes.{AreVolumes, SettlesVolumes, SettlesVolumesInPart}
+use Rattle.mud_server.specs.Volumes.{AreVolumes, Files, SettlesVolumes, SettlesVolumesInPart}
 use Rattle.mud_server.specs.inner.Between.{MayClose, WritesLast, WritesLastInPart}
 
 -- ---- the text of the last volume
 
-abbrev pub wrote : (limits : Limits) (loaded history : List Entry) (kept : Option Kept)
-    (held now_held : Option (List ℕ)) → MayClose limits loaded kept history
-    → Appends held now_held (history_text Two history) → WritesLast limits loaded held now_held
-wrote limits loaded history kept held now_held closes written = record {
+abbrev pub wrote : (limits : Limits) (loaded history : List Entry) (old new : Files) (kept : Option Kept)
+    (held now_held : Option (List ℕ)) → MayClose limits loaded old new kept history
+    → Appends held now_held (history_text Two history) → WritesLast limits loaded old new held now_held
+wrote limits loaded history old new kept held now_held closes written = record {
   earlier = closes.earlier;
   last = record { begun = closes.begun; ended = history; kept = kept };
   are = closes.are;
+  finishes = closes.finishes;
   written = written;
 }
 
-pub wrote_part : (limits : Limits) (loaded history : List Entry) (kept : Option Kept)
-    (held now_held : Option (List ℕ)) → MayClose limits loaded kept history
+pub wrote_part : (limits : Limits) (loaded history : List Entry) (old new : Files) (kept : Option Kept)
+    (held now_held : Option (List ℕ)) → MayClose limits loaded old new kept history
     → (n : ℕ) × Appends held now_held (take n (history_text Two history)) → WritesLastInPart limits loaded held now_held
-wrote_part limits loaded history kept held now_held closes written = inr (
+wrote_part limits loaded history old new kept held now_held closes written = inr (
   written.0,
   closes.earlier,
   record { begun = closes.begun; ended = history; kept = kept },
@@ -72,21 +73,22 @@ line_settled limits has_web opening loaded held now_held written =
     )
 
 pub all_settled : {A E : Type 0} (Of : List Entry → A → Type 0) (r : Result A E) (limits : Limits) (has_web : Bool)
-    (opening : Opening has_web) (loaded begun : List Entry) (held mid now_held : Option (List ℕ)) → begun ≡ loaded
-    → Appends held mid (lines_of has_web opening)
-    → IfOk r (λ x. (w : WritesLast limits begun mid now_held) × Of w.last.ended x)
-    → IfOk r (λ x. (s : SettlesVolumes limits has_web loaded held now_held) × Of s.last.ended x)
-all_settled Of (Ok x) limits has_web opening loaded begun held mid now_held is one (w, of) = (
+    (opening : Opening has_web) (loaded begun : List Entry) (old new : Files) (held mid now_held : Option (List ℕ))
+    → begun ≡ loaded → Appends held mid (lines_of has_web opening)
+    → IfOk r (λ x. (w : WritesLast limits begun old new mid now_held) × Of w.last.ended x)
+    → IfOk r (λ x. (s : SettlesVolumes limits has_web loaded old new held now_held) × Of s.last.ended x)
+all_settled Of (Ok x) limits has_web opening loaded begun old new held mid now_held is one (w, of) = (
   record {
     opening = opening;
     earlier = w.earlier;
     last = w.last;
     are = subst (λ (l : List Entry). AreVolumes limits l (w.last ∷ w.earlier)) is w.are;
+    finishes = w.finishes;
     written = Appends-trans held mid now_held (lines_of has_web opening) (history_text Two w.last.ended) one w.written;
   },
   of,
 )
-all_settled Of (Err e) limits has_web opening loaded begun held mid now_held is one all = tt
+all_settled Of (Err e) limits has_web opening loaded begun old new held mid now_held is one all = tt
 
 part_settled : (limits : Limits) (has_web : Bool) (opening : Opening has_web) (loaded : List Entry)
     (held mid now_held : Option (List ℕ)) → Appends held mid (lines_of has_web opening)

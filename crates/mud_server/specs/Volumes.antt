@@ -1,5 +1,5 @@
 -- The volumes of a server.
-use Rattle.std.specs.Prelude.{◌≡◌, ◌⊎◌, ℕ, Bool, List, [], ◌∷◌, ◌++◌, take, Option}
+use Rattle.std.specs.Prelude.{◌≡◌, ◌⊎◌, ℕ, Bool, List, [], ◌∷◌, ◌++◌, map, take, Option, option_map}
 use Rattle.std.specs.Io.KnownBytes.{Appends}
 use Rattle.mud_chron.specs.Entry.{Entry}
 use Rattle.mud_chron.specs.Text.{history_text}
@@ -37,13 +37,23 @@ pub data AreVolumes (limits : Limits) (loaded : List Entry) : List Volume → Ty
       → MayBegin last.ended next.begun → IsWhole limits next
       → AreVolumes limits loaded (next ∷ last ∷ earlier)
 
--- the lines of some ports were written, and after them the whole text of the last volume
-pub record SettlesVolumes (limits : Limits) (has_web : Bool) (loaded : List Entry)
+-- the bytes that the files of the finished volumes of a folder keep, the last one first, if they are known
+abbrev pub Files : Type 0
+Files = Option (List (Option Kept))
+
+-- exactly these volumes, the last one first, were finished
+abbrev pub Finishes : List Volume → Files → Files → Type 0
+Finishes volumes old new = new ≡ option_map (λ files. map (λ volume. volume.kept) volumes ++ files) old
+
+-- all volumes but the last one were finished. The lines of some ports were written, and after them the whole text of
+-- the last volume
+pub record SettlesVolumes (limits : Limits) (has_web : Bool) (loaded : List Entry) (finished now_finished : Files)
     (held now_held : Option (List ℕ)) : Type 0 where
   pub opening : Opening has_web
   pub earlier : List Volume
   pub last : Volume
   pub are : AreVolumes limits loaded (last ∷ earlier)
+  pub finishes : Finishes earlier finished now_finished
   pub written : Appends held now_held (lines_of has_web opening ++ history_text Two last.ended)
 
 -- a prefix of the lines was written, or the lines and a prefix of the text of such a volume

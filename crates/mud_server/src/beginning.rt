@@ -20,7 +20,7 @@ use std::alloc::Global;
 /// The folder of the volumes, and the name of the journal in it.
 #[derive(Drop)]
 pub struct Volumes<'a, S> {
-    pub shelf: &'a mut S,
+    pub shelf: S,
     pub journal: &'a str,
 }
 
@@ -92,8 +92,9 @@ pub(crate) fn make_next<S: Shelf, R: Log>(
     ensures holds { IfOk result (λ n. Holds (option_map durable (S.Draft.stage n.journal.disk.draft)) begun.items) }
     ensures count { IfOk result (λ n. n.journal.count ≡ length begun.items) }
     ensures going { IfOk result (λ n. n.journal.has_failed ≡ false) }
+    ensures finished { S.finished volumes.new.shelf ≡ S.finished volumes.old.shelf }
 {
-    let found = match next_volume(alloc, &mut *volumes.shelf, volumes.journal, volume) {
+    let found = match next_volume(alloc, &mut volumes.shelf, volumes.journal, volume) {
         Ok(found) => found,
         Err(fault) => {
             warn!(rt; "no-turn volume={volume} why=\"{fault}\"");

@@ -1,6 +1,6 @@
 //! A server that keeps its history on a disk, volume by volume.
 
-ghost use Rattle.std.specs.Prelude.{◌≡◌, ◌≤◌, ◌<◌, ℕ, length, take, is_some, IfOk, IfErr, IfNone, OnOk, OnErr};
+ghost use Rattle.std.specs.Prelude.{◌≡◌, ◌≤◌, ◌<◌, ℕ, ◌∷◌, length, take, is_some, IfOk, IfErr, IfNone, OnOk, OnErr};
 ghost use Rattle.std.specs.Option.{option_map};
 ghost use Rattle.std.specs.Io.KnownBytes.{Appends};
 ghost use Rattle.mud_io.specs.Streams.{Writer};
@@ -183,6 +183,7 @@ fn next_of<S: Shelf, D: Disk + Drop, R: Log>(
 ) -> Result<Next<Volume<S::Draft>>, NoNext>
     ensures begins { IfOk result (λ n. MayBegin rested.now.entries.items n.begun.items) }
     ensures few { IfOk result (λ n. length n.begun.items ≤ capacity) }
+    ensures finished { S.finished volumes.new.shelf ≡ S.finished volumes.old.shelf }
     ensures ready { IfOk result (λ n. IsReady (option_map durable (S.Draft.stage n.journal.disk.draft))
         n.journal.count n.journal.has_failed n.begun.items) }
 {
@@ -207,10 +208,13 @@ fn turn_from<S: Shelf, D: Disk + Drop, R: Wait + Log>(
     ensures turned { IfOk result (MatchTurned
         (λ next. MayBegin resting.rested.entries.items next.beginning.hall.loaded
         × IsReady (option_map durable (S.Draft.stage next.beginning.journal.disk.draft))
-        next.beginning.journal.count next.beginning.journal.has_failed next.beginning.hall.loaded)
+        next.beginning.journal.count next.beginning.journal.has_failed next.beginning.hall.loaded
+        × (S.finished volumes.new.shelf
+        ≡ option_map (λ files. D.kept resting.rested.journal.disk ∷ files) (S.finished volumes.old.shelf)))
         (λ same. (same.beginning.hall.loaded ≡ resting.rested.entries.items)
         × IsReady (D.kept same.beginning.journal.disk) same.beginning.journal.count
-        same.beginning.journal.has_failed same.beginning.hall.loaded)) }
+        same.beginning.journal.has_failed same.beginning.hall.loaded
+        × (S.finished volumes.new.shelf ≡ S.finished volumes.old.shelf))) }
     ensures fault { IfErr result IsInnerFault }
 {
     let Resting {
@@ -221,9 +225,16 @@ fn turn_from<S: Shelf, D: Disk + Drop, R: Wait + Log>(
     let (capacity, volume) = (terms.limits.capacity, rested.volume);
     match next_of(rt, alloc, volumes, capacity, &rested, proposal) {
         Ok(next) => {
+            let Rested {
+                entries,
+                journal,
+                since,
+                ..
+            } = rested;
+            volumes.shelf.finish(journal);
             let came = Came {
-                changes: Some(rested.entries.len()),
-                since: rested.since,
+                changes: Some(entries.len()),
+                since,
             };
             let number = volume.saturating_add(1);
             let beginning = begin_next(alloc, capacity, next, number, came)?;
@@ -304,8 +315,10 @@ fn serve_until_turn<S: Shelf, D: Disk + Drop, R: Threads + Wait + Log + Clock + 
         going.beginning.journal.has_failed going.beginning.hall.loaded }
     ensures served { IfOk result (MatchOutcome
         (λ e. MayLast terms.entry.limits going.beginning.hall.loaded e.history
-        × Holds (D.kept e.journal.disk) e.history)
+        × Holds (D.kept e.journal.disk) e.history
+        × (S.finished volumes.new.shelf ≡ S.finished volumes.old.shelf))
         (λ next. MayTurn terms.entry.limits going.beginning.hall.loaded next.beginning.hall.loaded
+        (S.finished volumes.old.shelf) (S.finished volumes.new.shelf)
         × IsReady (option_map durable (S.Draft.stage next.beginning.journal.disk.draft))
         next.beginning.journal.count next.beginning.journal.has_failed next.beginning.hall.loaded)) }
     ensures fault { IfErr result IsInnerFault }
@@ -338,6 +351,7 @@ fn serve_later<S: Shelf, R: Threads + Wait + Log + Clock + Sync>(
     requires ready { IsReady (option_map durable (S.Draft.stage going.beginning.journal.disk.draft))
         going.beginning.journal.count going.beginning.journal.has_failed going.beginning.hall.loaded }
     ensures closes { IfOk result (λ e. MayClose terms.entry.limits going.beginning.hall.loaded
+        (S.finished volumes.old.shelf) (S.finished volumes.new.shelf)
         (option_map durable (S.Draft.stage e.journal.disk.draft)) e.history) }
     ensures fault { IfErr result IsInnerFault }
 {
@@ -395,7 +409,8 @@ fn serve_volumes<S: Shelf, D: Disk + Drop, R: Threads + Wait + Log + Clock + Syn
     requires ready { IsReady (D.kept first.beginning.journal.disk) first.beginning.journal.count
         first.beginning.journal.has_failed first.beginning.hall.loaded }
     ensures ok { IfOk result (λ journal.
-        (w : WritesLast terms.entry.limits first.beginning.hall.loaded out.old.holds out.new.holds)
+        (w : WritesLast terms.entry.limits first.beginning.hall.loaded (S.finished volumes.old.shelf)
+        (S.finished volumes.new.shelf) out.old.holds out.new.holds)
         × MatchLast (λ f. Holds (D.kept f.disk) w.last.ended)
         (λ l. Holds (option_map durable (S.Draft.stage l.disk.draft)) w.last.ended) journal) }
     ensures front { OnErr result (WritesLastInPart terms.entry.limits first.beginning.hall.loaded
@@ -470,8 +485,8 @@ pub enum LastJournal<F, L> {
 ///
 /// When a volume is nearly full, or the host requests it, the server turns to the next one. That begins with a shorter
 /// history of the same world. All sessions rest, sit down in the next hall, and go on there. The result is the journal
-/// of the last volume, which has the whole history that is written. Each earlier one had its whole history when the
-/// server turned.
+/// of the last volume, which has the whole history that is written. The folder has the files of all earlier volumes,
+/// which had their whole histories when they were finished.
 ///
 /// `Load` comes before anything is written, also to the journal. After `Open` the volume has its old contents, or all
 /// loaded entries. After `Journal` all sessions have ended.
@@ -494,7 +509,8 @@ pub fn listen_volumes<S: Shelf, R: Threads + Wait + Log + Clock + Sync + AllocGl
     requires found { first.found.text.items ≡ journal_text Two (take first.found.count first.loaded.items) }
     requires within { first.found.count ≤ length first.loaded.items }
     ensures ok { IfOk result (λ journal.
-        (s : SettlesVolumes limits (is_some doors.web) first.loaded.items out.old.holds out.new.holds)
+        (s : SettlesVolumes limits (is_some doors.web) first.loaded.items (S.finished volumes.old.shelf)
+        (S.finished volumes.new.shelf) out.old.holds out.new.holds)
         × MatchLast (λ f. Holds (S.Disk.kept f.disk) s.last.ended)
         (λ l. Holds (option_map durable (S.Draft.stage l.disk.draft)) s.last.ended) journal) }
     ensures front { OnErr result (SettlesVolumesInPart limits (is_some doors.web) first.loaded.items

@@ -4,7 +4,9 @@ use crate::draft::Draft;
 use crate::names::volume_name;
 use crate::shelf::Shelf;
 use mud_chron::Entry;
-use mud_journal::{DiskFault, Found, JournalFile, OpenFault, find_journal};
+use mud_journal::{
+    Disk, DiskFault, Found, Journal, JournalFile, Nameless, OpenFault, find_journal,
+};
 use std::alloc::AllocError;
 use std::fs::{self, File, OpenOptions};
 use std::io::{self, ErrorKind, Write};
@@ -143,6 +145,8 @@ impl<'r, R: Files<File = File> + AllocGlobal + Clone + Drop> Shelf for VolumeFol
 
     ghost files = { λ _. None };
 
+    ghost finished = { λ _. None };
+
     fn names(&self, journal: &str) -> Result<Vec<String>, OpenFault> {
         self.names_from(journal)
             .map_err(|error| OpenFault::File(DiskFault::of(&error)))
@@ -159,6 +163,10 @@ impl<'r, R: Files<File = File> + AllocGlobal + Clone + Drop> Shelf for VolumeFol
     fn draft(&mut self, journal: &str, number: u32) -> Result<DraftFile<'r, R>, DiskFault> {
         self.make(journal, number)
             .map_err(|error| DiskFault::of(&error))
+    }
+
+    fn finish<D: Disk + Drop>(&mut self, journal: Journal<Nameless, D>) {
+        drop(journal);
     }
 }
 

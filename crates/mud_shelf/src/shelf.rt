@@ -1,10 +1,11 @@
 //! The folder of a journal, in which its volumes stand.
 
-ghost use Rattle.std.specs.Prelude.{◌≡◌, ◌≢◌, ◌≤◌, ◌<◌, ◌+◌, ℕ, List, [], Option, None, IfOk, IfErr, IfSome, length};
-ghost use Rattle.std.specs.Prelude.{map, string_bytes, Contains, unwrap_or};
+ghost use Rattle.std.specs.Prelude.{◌≡◌, ◌≢◌, ◌≤◌, ◌<◌, ◌+◌, ℕ, List, [], ◌∷◌, Option, None, IfOk, IfErr, IfSome};
+ghost use Rattle.std.specs.Prelude.{length, map, string_bytes, Contains, unwrap_or, option_map};
 ghost use Rattle.mud_world.specs.declared.limits.TheConstants.{MOST_ENTRIES};
 ghost use Rattle.mud_chron.specs.declared.format.Format.TheVariants.{Two};
 ghost use Rattle.mud_chron.specs.Text.{journal_text};
+ghost use Rattle.mud_journal.specs.Disk.{Kept};
 ghost use Rattle.mud_journal.specs.Found.{Finds};
 ghost use Rattle.mud_shelf.specs.declared.names.TheConstants.{MOST_VOLUMES};
 ghost use Rattle.mud_shelf.specs.Names.{HasVolume, volume_name, IsVolume};
@@ -16,7 +17,7 @@ use crate::names::{MOST_VOLUMES, latest_volume, volume_name};
 use crate::turning::fresh_volume;
 use crate::volume::Volume;
 use mud_chron::Entry;
-use mud_journal::{Disk, DiskFault, Found, OpenFault};
+use mud_journal::{Disk, DiskFault, Found, Journal, Nameless, OpenFault};
 use std::alloc::Global;
 
 // The number of looks for the latest volume. Another process may add a volume between two.
@@ -32,6 +33,9 @@ pub trait Shelf {
 
     /// The bytes of each file by its name; `None` while nothing is known.
     ghost files: { Self → Option Folder };
+
+    /// The bytes that the files of finished volumes keep, the last one first; `None` while nothing is known.
+    ghost finished: { Self → Option (List (Option Kept)) };
 
     /// Returns the names of files, among them each volume of this journal.
     fn names(&self, journal: &str) -> Result<Vec<String>, OpenFault>
@@ -57,7 +61,12 @@ pub trait Shelf {
     /// It gets the owner and the mode of the volume before it.
     fn draft(&mut self, journal: &str, number: u32) -> Result<Self::Draft, DiskFault>
         ensures fresh { IfOk result (λ draft. IsFresh (Self.Draft.stage draft)) }
-        ensures number { IfOk result (λ draft. IfSome (Self.Draft.number draft) (λ n. n ≡ number)) };
+        ensures number { IfOk result (λ draft. IfSome (Self.Draft.number draft) (λ n. n ≡ number)) }
+        ensures finished { finished self.new ≡ finished self.old };
+
+    /// Closes and unlocks the file of a volume that has ended.
+    fn finish<D: Disk + Drop>(&mut self, journal: Journal<Nameless, D>)
+        ensures { finished self.new ≡ option_map (λ files. D.kept journal.disk ∷ files) (finished self.old) };
 }
 
 /// The volume that a start finds in a folder: its number, the journal in it, its entries, and the number of torn bytes
@@ -147,6 +156,7 @@ pub fn next_volume<S: Shelf>(
     ensures fresh { IfOk result (λ f. IsFresh (S.Draft.stage f.disk.draft)) }
     ensures text { IfOk result (λ f. f.text.items ≡ journal_text Two []) }
     ensures count { IfOk result (λ f. f.count ≡ 0) }
+    ensures finished { S.finished shelf.new ≡ S.finished shelf.old }
 {
     if number >= MOST_VOLUMES {
         return Err(OpenFault::TooLong);

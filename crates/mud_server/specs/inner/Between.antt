@@ -10,7 +10,7 @@ use Rattle.mud_server_state.specs.declared.limits.Limits.{Limits}
 use Rattle.mud_server_end.specs.declared.fault.ServerFault.{ServerFault}
 use Rattle.mud_server_end.specs.Server.{IsServerFault}
 use Rattle.mud_server.specs.MayBegin.{MayBegin}
-use Rattle.mud_server.specs.Volumes.{Volume, IsWhole, AreVolumes}
+use Rattle.mud_server.specs.Volumes.{Volume, IsWhole, AreVolumes, Files, Finishes}
 
 -- the journal of a volume that begins with these entries: its file keeps them, and no call has failed
 pub record IsReady (kept : Option Kept) (count : ℕ) (has_failed : Bool) (begun : List Entry) : Type 0 where
@@ -18,32 +18,38 @@ pub record IsReady (kept : Option Kept) (count : ℕ) (has_failed : Bool) (begun
   pub counted : count ≡ length begun
   pub going : has_failed ≡ false
 
--- a volume that began with these entries was whole at its end, and the next one may begin with those
-pub record MayTurn (limits : Limits) (begun next : List Entry) : Type 0 where
+-- a volume that began with these entries was whole at its end and was finished, and the next one may begin with those
+pub record MayTurn (limits : Limits) (begun next : List Entry) (old new : Files) : Type 0 where
   pub volume : Volume
   pub from : volume.begun ≡ begun
   pub whole : IsWhole limits volume
   pub begins : MayBegin volume.ended next
+  pub finishes : Finishes (volume ∷ []) old new
 
--- a server that began with these entries has had some volumes, and the next one may begin with those
-pub record MayFollow (limits : Limits) (loaded next : List Entry) : Type 0 where
+-- a server that began with these entries has finished some volumes, and the next one may begin with those
+pub record MayFollow (limits : Limits) (loaded next : List Entry) (old new : Files) : Type 0 where
   pub earlier : List Volume
   pub last : Volume
   pub are : AreVolumes limits loaded (last ∷ earlier)
   pub begins : MayBegin last.ended next
+  pub finishes : Finishes (last ∷ earlier) old new
 
 -- a server that began with these entries ended with a volume of that history, which its file keeps
-pub record MayClose (limits : Limits) (loaded : List Entry) (kept : Option Kept) (history : List Entry) : Type 0 where
+pub record MayClose (limits : Limits) (loaded : List Entry) (old new : Files) (kept : Option Kept)
+    (history : List Entry) : Type 0 where
   pub begun : List Entry
   pub earlier : List Volume
   pub are : AreVolumes limits loaded (record { begun = begun; ended = history; kept = kept } ∷ earlier)
   pub holds : Holds kept history
+  pub finishes : Finishes earlier old new
 
 -- the whole text of the last volume of a server was written
-pub record WritesLast (limits : Limits) (loaded : List Entry) (held now_held : Option (List ℕ)) : Type 0 where
+pub record WritesLast (limits : Limits) (loaded : List Entry) (old new : Files) (held now_held : Option (List ℕ))
+    : Type 0 where
   pub earlier : List Volume
   pub last : Volume
   pub are : AreVolumes limits loaded (last ∷ earlier)
+  pub finishes : Finishes earlier old new
   pub written : Appends held now_held (history_text Two last.ended)
 
 -- nothing was written, or a prefix of the text of such a volume

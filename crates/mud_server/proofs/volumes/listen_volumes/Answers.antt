@@ -48,7 +48,7 @@ returns-clause-ok g c =
     (λ (history : List Entry) journal.
     MatchLast (λ f. Holds (g.S.Disk.Appends.kept f.disk) history)
     (λ l. Holds (option_map durable (g.S.Draft.Draft.stage l.disk.draft)) history) journal)
-    c.serve_volumes.result _ _ lines _ _ _ _ _ c.in_ok-beginning.ensures.loaded c.in_ok-write_ports.ensures.ok
+    c.serve_volumes.result _ _ lines _ _ _ _ _ _ _ c.in_ok-beginning.ensures.loaded c.in_ok-write_ports.ensures.ok
     c.serve_volumes.ensures.ok
 
 pub returns-clause-front : goal.returns-clause-front

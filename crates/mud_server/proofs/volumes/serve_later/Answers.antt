@@ -7,10 +7,10 @@ use Rattle.mud_server.proofs.volumes.serve_later.Goals as goal
 pub returns-in-Ends-clause-closes : goal.returns-in-Ends-clause-closes
 returns-in-Ends-clause-closes g c =
     let served = rw c.in-Ends.is at c.in_ok-ended.ensures.served in
-    closes _ _ _ _ (option_map durable (g.S.Draft.Draft.stage c.in-Ends.ended.journal.disk.draft))
-    c.loop.invariant.followed served.0 served.1
+    closes _ _ _ _ _ _ _ (option_map durable (g.S.Draft.Draft.stage c.in-Ends.ended.journal.disk.draft))
+    c.loop.invariant.followed served.0 served.1 served.2
 
 pub loop-preserved : goal.loop-preserved
 loop-preserved g c =
     let served = rw c.in-Turns.is at c.in_ok-ended.ensures.served in
-    record { followed = inr (follows _ _ _ _ c.loop.invariant.followed served.0); ready = served.1 }
+    record { followed = inr (follows _ _ _ _ _ _ _ c.loop.invariant.followed served.0); ready = served.1 }

@@ -1,4 +1,4 @@
-use Rattle.std.proofs.Common.{List, inr, sym, subst}
+use Rattle.std.proofs.Common.{List, inr, sym, ◌∙◌, subst}
 use Rattle.mud_chron.specs.Entry.{Entry}
 use Rattle.mud_server.specs.Volumes.{MayLast}
 use Rattle.mud_server.proofs.Chained.{lasts, turns}
@@ -7,14 +7,14 @@ use Rattle.mud_server.proofs.volumes.serve_until_turn.Goals as goal
 pub returns-in-Ends-clause-served : goal.returns-in-Ends-clause-served
 returns-in-Ends-clause-served g c =
     let served = rw c.in-Ends.is at c.in_ok-ended.ensures.served in
-    (lasts _ _ _ _ c.loop.invariant.lasted served.0, served.1)
+    (lasts _ _ _ _ c.loop.invariant.lasted served.0, served.1, c.loop.invariant.still)
 
 pub returns-in-Next-clause-served : goal.returns-in-Next-clause-served
 returns-in-Next-clause-served g c =
     let served = rw c.in-Turns.is at c.in_ok-ended.ensures.served in
     let turned = rw c.in-Next.is at c.in_ok-next.ensures.turned in (
-      turns _ _ _ _ _ (g.D.Appends.kept c.in-Turns.resting.rested.journal.disk) c.loop.invariant.lasted served.0
-          served.1.holds turned.0,
+      turns _ _ _ _ _ (g.D.Appends.kept c.in-Turns.resting.rested.journal.disk) _ _ _ c.loop.invariant.lasted served.0
+          served.1.holds turned.0 c.loop.invariant.still turned.2,
       turned.1,
     )
 
@@ -26,4 +26,5 @@ loop-preserved g c =
       lasted = inr (subst (λ (l : List Entry). MayLast c.args.terms.limits c.args.going.beginning.hall.loaded l)
           (sym turned.0) (lasts _ _ _ _ c.loop.invariant.lasted served.0));
       ready = turned.1;
+      still = turned.2 ∙ c.loop.invariant.still;
     }

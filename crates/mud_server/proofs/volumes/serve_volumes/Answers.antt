@@ -17,8 +17,8 @@ pub returns-in_err-finish-in-Ends-clause-front : goal.returns-in_err-finish-in-E
 returns-in_err-finish-in-Ends-clause-front g c =
     let served = rw c.in-Ends.is at c.in_ok-ended.ensures.served in
     any_err c.from_residual-in_err-finish-in-Ends.result
-    (wrote_part _ _ _ (g.D.Appends.kept c.in-Ends.ended.journal.disk) _ _
-    (closes _ _ _ _ _ (inl refl) served.0 served.1) c.in_err-finish-in-Ends.ensures.front)
+    (wrote_part _ _ _ _ _ (g.D.Appends.kept c.in-Ends.ended.journal.disk) _ _
+    (closes _ _ _ _ _ _ _ _ (inl (refl, refl)) served.0 served.1 served.2) c.in_err-finish-in-Ends.ensures.front)
 
 pub returns-in_err-ended-in-Turns-clause-fault : goal.returns-in_err-ended-in-Turns-clause-fault
 returns-in_err-ended-in-Turns-clause-fault g c =
@@ -31,14 +31,14 @@ pub returns-in_err-finish-in-Turns-clause-front : goal.returns-in_err-finish-in-
 returns-in_err-finish-in-Turns-clause-front g c =
     let served = rw c.in-Turns.is at c.in_ok-ended.ensures.served in
     any_err c.from_residual-in_err-finish-in-Turns.result
-    (wrote_part _ _ _ _ _ _ (closes_later _ _ _ _ _ served.0 c.in_ok-ended-in-Turns.ensures.closes)
+    (wrote_part _ _ _ _ _ _ _ _ (closes_later _ _ _ _ _ _ _ _ served.0 c.in_ok-ended-in-Turns.ensures.closes)
     c.in_err-finish-in-Turns.ensures.front)
 
 pub returns-in_ok-finish-in-Ends-clause-ok : goal.returns-in_ok-finish-in-Ends-clause-ok
 returns-in_ok-finish-in-Ends-clause-ok g c =
     let served = rw c.in-Ends.is at c.in_ok-ended.ensures.served in (
-      wrote _ _ _ (g.D.Appends.kept c.in-Ends.ended.journal.disk) _ _ (closes _ _ _ _ _ (inl refl) served.0 served.1)
-          c.in_ok-finish-in-Ends.ensures.ok,
+      wrote _ _ _ _ _ (g.D.Appends.kept c.in-Ends.ended.journal.disk) _ _
+          (closes _ _ _ _ _ _ _ _ (inl (refl, refl)) served.0 served.1 served.2) c.in_ok-finish-in-Ends.ensures.ok,
       subst (λ j. Holds (g.D.Appends.kept j.disk) c.in-Ends.ended.history) (sym c.in_ok-finish-in-Ends.ensures.journal)
           served.1,
     )
@@ -48,8 +48,8 @@ returns-in_ok-finish-in-Turns-clause-ok g c =
     let served = rw c.in-Turns.is at c.in_ok-ended.ensures.served in
     let ended = c.in_ok-ended-in-Turns.ended in
     let closed = c.in_ok-ended-in-Turns.ensures.closes in (
-      wrote _ _ _ (option_map durable (g.S.Draft.Draft.stage ended.journal.disk.draft)) _ _
-          (closes_later _ _ _ _ _ served.0 closed) c.in_ok-finish-in-Turns.ensures.ok,
+      wrote _ _ _ _ _ (option_map durable (g.S.Draft.Draft.stage ended.journal.disk.draft)) _ _
+          (closes_later _ _ _ _ _ _ _ _ served.0 closed) c.in_ok-finish-in-Turns.ensures.ok,
       subst (λ j. Holds (option_map durable (g.S.Draft.Draft.stage j.disk.draft)) ended.history)
           (sym c.in_ok-finish-in-Turns.ensures.journal) closed.holds,
     )

@@ -13,7 +13,7 @@ from harness.programs import TOP
 
 # The libraries that suit any program, call by call, and those that suit only a server.
 LIBRARIES = ("refuse", "fail_ends", "fail_threads")
-SERVER_LIBRARIES = ("fail_files", "note_syncs", "lose_pages", "fail_accept", "ceiling", "short_hour")
+SERVER_LIBRARIES = ("fail_files", "note_syncs", "lose_pages", "fail_accept", "ceiling", "short_hour", "late_lock")
 COMPILERS = ("cc", "gcc", "clang")
 
 

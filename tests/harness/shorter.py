@@ -14,8 +14,9 @@ from harness.programs import program
 SECONDS = 600
 # The most changes of a shorter history for each object, and where no way leads back.
 MULTIPLE, ONE_WAY = 5, 12
-# How many times the processor time of `show`, which reads and replays once, `shorten` may take.
-TIMES = 5
+# How many times the processor time of `show`, which reads and replays once, `shorten` may take, and by how many seconds
+# two runs of a program may differ.
+TIMES, NOISE = 5, 0.05
 
 
 @dataclass
@@ -240,7 +241,7 @@ def busy(scribe):
 
 KINDS = (sack, bags, hands, gone, line, maze, pit, busy)
 # The histories of the gate, and those on demand: of each kind a size.
-SMALL = dict.fromkeys(KINDS, Size(1500))
+SMALL = dict.fromkeys(KINDS, Size(12000, 16, 30, 300)) | {sack: Size(12000, things=100)}
 LARGE = {
     sack: Size(45202, things=100), bags: Size(45000, 64, 100, 1500), hands: Size(45000, 64, 2, 1500),
     gone: Size(30000), line: Size(45000, 64, 600, 1500), maze: Size(45000, 64, 600, 1000),
@@ -285,7 +286,7 @@ def why_not(kind, size, seed, shown=False):
         return f"{count} of {before} changes are left, with {world.next} objects"
     if kept("shorten", shorter)[1] != shorter:
         return "another text when it is shortened again"
-    return "" if took <= TIMES * replayed + 0.5 else f"{took:.1f} s, and {replayed:.1f} s to show"
+    return "" if took <= TIMES * replayed + NOISE else f"{took:.1f} s, and {replayed:.1f} s to show"
 
 
 @part("shorter", "mud_keep shortens random histories to a few changes an object, soon (words: [SEED])", words="[SEED]")

@@ -12,6 +12,7 @@ import subprocess
 import tempfile
 import threading
 import time
+from concurrent.futures import ThreadPoolExecutor
 
 from harness.crash import entries_of, stands
 from harness.guests import is_soon
@@ -21,7 +22,8 @@ from harness.keep import kept
 from harness.parts import part
 from harness.preload import library
 from harness.recipes import blocks
-from harness.server import Client
+from harness.programs import program
+from harness.server import HOST, LOGGED, Client
 from harness.web import WebServer
 
 VOLUME = re.compile(rb"\(volume (\d+)\)")
@@ -521,6 +523,40 @@ def why_called_off():
         return why_not_continued(shelf, told)
 
 
+# ---- a second server
+
+
+def refused(shelf, environment=None):
+    """Runs another server over the same journal. Returns its status, its output, and its message."""
+    command = [program("mud_serve"), "listen", "--port", "0", "--address", HOST, "--journal", shelf.path]
+    ran = subprocess.run(command, stdin=subprocess.DEVNULL, capture_output=True, timeout=SECONDS, check=False,
+                         env={**os.environ, **(environment or {})})
+    return ran.returncode, ran.stdout, LOGGED.sub(b"", ran.stderr)
+
+
+def why_second_server():
+    """Another server over the same journal is refused while one runs, also if it finds a volume before a turn, and gets
+    its lock after it."""
+    right = 3, b"", b"mud_serve: cannot open journal: in use\n"
+    told = Told()
+    with Shelf() as shelf, tempfile.TemporaryDirectory() as folder:
+        now, waits = f"{folder}/now", f"{folder}/waits"
+        late = {"LD_PRELOAD": library("late_lock"), "LOCK_AFTER": now, "LOCK_WAITS": waits}
+        with shelf.server(console=True) as server, ThreadPoolExecutor() as threads:
+            other = threads.submit(refused, shelf, late)
+            if not is_soon(lambda: os.path.exists(waits), seconds=SECONDS):
+                return "the other one locks nothing"
+            line, _ = played(server, told, 1)
+            at_once = refused(shelf)
+            with open(now, "wb"):
+                later = other.result()
+            server.type(b"stop\n")
+            server.end(SECONDS)
+        if (at_once, later) != (right, right) or not (line or "").startswith("turn volume=2 "):
+            return f"{at_once}, {later}, {line}"
+        return why_not_continued(shelf, told)
+
+
 # ---- kills at random moments
 
 
@@ -623,7 +659,7 @@ def why_copied():
 def volumes(count):
     for name, why in (("half a line, and lines that wait", why_half_typed), ("newcomers", why_newcomer),
                       ("a large world", why_large), ("a turn that is called off", why_called_off),
-                      ("a copy of all", why_copied)):
+                      ("a second server", why_second_server), ("a copy of all", why_copied)):
         count.tries(f"volumes: {name}", why)
     for entrance, by_web in (("Telnet", False), ("web", True)):
         count.tries(f"volumes: a player who does not read, by {entrance}", why_slow_reader, by_web)

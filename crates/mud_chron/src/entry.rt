@@ -36,6 +36,7 @@ impl Entry {
     /// Returns the entry of a change that the desk made. By the law
     /// [`legal_is_spellable`](crate::laws::legal_is_spellable), a change that is legal in a sound world is spellable
     /// for each desk from 1 to 64.
+    #[inline(always)]
     pub fn new(desk: u32, change: Change) -> Entry
         requires { IsSpellable desk change }
         ensures { result ≡ record { desk = desk; change = change } }

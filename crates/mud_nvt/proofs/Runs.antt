@@ -2,10 +2,13 @@
 use Rattle.std.proofs.Common.{ℕ, ◌≡◌, refl, ap, sym, ◌∙◌, ◌+◌, ◌<◌, ◌≤◌, arith, Bool, true, false, List, [], ◌∷◌}
 use Rattle.std.proofs.Common.{◌++◌, length, All}
 use Rattle.std.proofs.Common.{◌==◌, nat_le, nat_lt, append_assoc, append-nil}
-use Rattle.std.proofs.Common.{◌≢◌, ◌-◌, take, length-append, length-take, length-take-le}
+use Rattle.std.proofs.Common.{◌≢◌, ◌-◌, ◌&&◌, get_or, take, drop, length-append, length-take, length-take-le, IsUtf8}
+use Rattle.std.proofs.Math.Seq.{take-add}
 use Rattle.std.proofs.lemmas.List.{take-take}
-use Rattle.std.proofs.lemmas.List.Elements.{All-head, All-tail}
+use Rattle.std.proofs.lemmas.List.Elements.{All-head, All-tail, All-append, All-more, All-weaker}
 use Rattle.std.proofs.lemmas.Bool.Decides.{nat_tests}
+use Rattle.std.proofs.lemmas.Str.{IsUtf8-from_ascii}
+use Rattle.std.proofs.lemmas.Str.Ascii.{IsAscii-from_all}
 use Rattle.mud_nvt.specs.declared.codes.TheConstants.{IAC, NUL, BS, HT, LF, CR, DEL, SPACE, TILDE}
 use Rattle.mud_nvt.specs.declared.TheConstants.{MOST}
 use Rattle.mud_nvt.specs.declared.telnet.Piece.TheVariants.{Data}
@@ -116,3 +119,23 @@ is_typed h bytes text m len p t o room w some all e =
       fits = t;
       short = omega arith;
     }
+
+-- printable characters, and more of them after these
+pub more_printable : (bytes : List ℕ) (n m : ℕ) → All IsPrintable (take n bytes)
+    → All IsPrintable (take m (drop n bytes)) → All IsPrintable (take (n + m) bytes)
+more_printable bytes n m some more =
+    rw (take-add n m bytes) (All-append IsPrintable (take n bytes) (take m (drop n bytes)) some more)
+
+-- printable characters are ASCII
+pub printable_utf8 : (bytes : List ℕ) → All IsPrintable bytes → IsUtf8 bytes
+printable_utf8 bytes all =
+    IsUtf8-from_ascii bytes (IsAscii-from_all bytes
+    (All-weaker IsPrintable (λ b. b < 128) (λ b p. let m : b ≤ TILDE = p.1 in omega arith) bytes all))
+
+-- one more byte, if it and those before it are printable
+pub one_more : (bytes : List ℕ) (i : ℕ) (before now : Bool) → i < length bytes
+    → (before ≡ true → All IsPrintable (take i bytes))
+    → (now ≡ true → IsPrintable (get_or bytes i 0)) → before && now ≡ true → All IsPrintable (take (i + 1) bytes)
+one_more bytes i true true lt all here both = All-more IsPrintable bytes i 0 lt (all refl) (here refl)
+one_more bytes i true false lt all here both = cc
+one_more bytes i false now lt all here both = cc

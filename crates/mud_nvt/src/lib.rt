@@ -209,10 +209,8 @@ impl<A: Allocator + Clone + Drop> Nvt<A> {
         if len == 0 {
             return None;
         }
-        match str::from_utf8(&bytes[..len]) {
-            Ok(text) => Some(text),
-            Err(_) => None,
-        }
+        // the characters are ASCII, so they need no further test
+        Some(unsafe { str::from_utf8_unchecked(&bytes[..len]) })
     }
 
     // Appends characters to the line.

@@ -7,6 +7,7 @@ use crate::drawing::svg_of;
 use crate::graph::graph_of;
 use mud_chron::replay;
 use mud_compact::{KeptFault, TextKind, read_kept};
+use mud_world::World;
 use std::alloc::Global;
 
 /// The form of a picture.
@@ -27,6 +28,18 @@ pub struct PictureText {
     pub torn: Option<usize>,
 }
 
+// Reads the world of a history or a journal, and counts the torn bytes at the end of a journal.
+fn read_world(
+    alloc: Global,
+    kind: TextKind,
+    bytes: &[u8],
+) -> Result<(World, Option<usize>), KeptFault>
+    ensures err { IfErr result (KeepsNoWorld kind bytes.now) }
+{
+    let kept = read_kept(alloc, kind, bytes)?;
+    Ok((replay(alloc, &kept.entries)?, kept.torn))
+}
+
 /// Returns the picture of the world of a history or a journal, as `kind` says (docs/KEEPING.md, "Map").
 pub fn picture_of(
     alloc: Global,
@@ -36,14 +49,10 @@ pub fn picture_of(
 ) -> Result<PictureText, KeptFault>
     ensures err { IfErr result (KeepsNoWorld kind bytes.now) }
 {
-    let kept = read_kept(alloc, kind, bytes)?;
-    let world = replay(alloc, &kept.entries)?;
+    let (world, torn) = read_world(alloc, kind, bytes)?;
     let text = match form {
         PictureForm::Svg => svg_of(alloc, &world)?,
         PictureForm::Graph => graph_of(alloc, &world)?,
     };
-    Ok(PictureText {
-        text,
-        torn: kept.torn,
-    })
+    Ok(PictureText { text, torn })
 }

@@ -17,7 +17,9 @@ pub(crate) struct Actor<'a> {
 }
 
 impl Actor<'_> {
-    // Returns the change of this deed, or the least refusal: the command's own, or the change's.
+    // Returns the change of this deed, or the least refusal: the command's own, or the change's. It is inlined, because
+    // moving a verdict is expensive.
+    #[inline(always)]
     pub(crate) fn does(&self, own: Option<Refusal>, deed: Deed) -> Verdict
         ensures { result ≡ does self.now.world.now self.now.player own deed }
     {

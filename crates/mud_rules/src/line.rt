@@ -38,6 +38,7 @@ pub fn is_quit(parsed: &Parsed) -> bool
 /// A given player should be one of that world. The table also decides a line for any other number. The only error is
 /// out of memory.
 #[tactic(auto, unfolding(crate::specs::Table::decision))]
+#[inline(always)]
 pub fn decide(
     alloc: Global,
     world: &World,

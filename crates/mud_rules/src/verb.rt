@@ -4,6 +4,7 @@ ghost use Rattle.std.specs.Prelude.{◌≡◌, ◌∷◌, ℕ, false, List, map}
 ghost use Rattle.std.specs.Option.{option_map_or};
 ghost use Rattle.std.specs.Char.{to_ascii_lowercase};
 ghost use Rattle.std.specs.Map.{lookup};
+ghost use Rattle.std.specs.List.{list_any};
 ghost use Rattle.std.specs.Str.{str_eq_ignore_ascii_case};
 ghost use Rattle.mud_rules.specs.inner.Verbs.{row_of};
 ghost use Rattle.mud_rules.specs.Table.{verb_named, asks};
@@ -68,23 +69,41 @@ impl Verb {
     pub(crate) fn asks(text: &str) -> bool
         ensures { result ≡ option_map_or asks (verb_named text.now) false }
     {
-        match Verb::of_word(text) {
-            Some(verb) => verb.is_question(),
-            None => false,
-        }
+        let [letter, ..] = text.as_bytes() else {
+            return false;
+        };
+        is_any(questions_with(letter.to_ascii_lowercase()), text)
     }
+}
 
-    // Returns whether it is the verb of a question.
-    fn is_question(self) -> bool
-        ensures { result ≡ asks self }
-    {
-        match self {
-            Verb::Look | Verb::Inventory | Verb::Key => true,
-            Verb::Route | Verb::Meet | Verb::Proof => true,
-            Verb::Version | Verb::History | Verb::Quit => true,
-            _ => false,
+// Returns the verbs of questions that begin with this lower-case letter.
+fn questions_with(letter: u8) -> &'static [&'static str]
+    ensures { (c : ℕ) (cs : List ℕ) → to_ascii_lowercase c ≡ letter
+        → list_any (λ word. str_eq_ignore_ascii_case (c ∷ cs) word) (map (λ t. t.now) result.now)
+        ≡ option_map_or asks (verb_named (c ∷ cs)) false }
+{
+    match letter {
+        b'@' => &["@key", "@version", "@history"],
+        b'i' => &["inventory", "inv", "i"],
+        b'l' => &["look", "l"],
+        b'm' => &["meet"],
+        b'p' => &["proof"],
+        b'q' => &["quit"],
+        b'r' => &["route"],
+        _ => &[],
+    }
+}
+
+// Returns whether a word is any of these.
+fn is_any(words: &[&str], text: &str) -> bool
+    ensures { result ≡ list_any (λ word. str_eq_ignore_ascii_case text.now word) (map (λ t. t.now) words.now) }
+{
+    for word in words {
+        if is_word(text, word) {
+            return true;
         }
     }
+    false
 }
 
 // Returns the words of the table that begin with this lower-case letter.

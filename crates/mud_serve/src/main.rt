@@ -26,10 +26,10 @@ use crate::console::watch;
 use crate::scripting::answer;
 use crate::serving::listen;
 use crate::settings::{Unsettled, settled};
-use crate::staff::{Staff, remove_control};
+use crate::staff::Staff;
 use crate::stop::Stop;
-use log::{Level, Logged, info};
-use mud_cli::{CommandFault, Service, service_of, show, version, words_of};
+use log::{Level, Log, Logged, info};
+use mud_cli::{CommandFault, Listening, Service, service_of, show, version};
 use mud_server::{Hosting, StopSign};
 use std::alloc::Global;
 use std::io::{Eprint, Print};
@@ -41,14 +41,9 @@ use std::thread;
 const FREED_BYTES: usize = 1 << 20;
 
 fn main(rt: HostRuntime) -> ExitCode {
-    let given = match words_of(&rt) {
+    let words = match settled(&rt) {
         Ok(words) => words,
-        Err(fault) => return tell_fault(&rt, fault),
-    };
-    let words = match settled(&rt, given) {
-        Ok(words) => words,
-        Err(Unsettled::Words(fault)) => return tell_fault(&rt, fault),
-        Err(Unsettled::File(stop)) => return tell_stop(&rt, stop),
+        Err(unsettled) => return tell_unsettled(&rt, unsettled),
     };
     let service = match service_of(rt.alloc(), words.as_slice()) {
         Ok(service) => service,
@@ -66,10 +61,7 @@ fn main(rt: HostRuntime) -> ExitCode {
         Ok(staff) => staff,
         Err(stop) => return tell_stop(&rt, stop),
     };
-    let (status_port, may_stop) = (
-        staff.status_port(),
-        listening.console || listening.control.is_some(),
-    );
+    let status_port = staff.status_port();
     let (Ok(host), Ok(control)) = (staff.host(), Arc::try_clone(&staff.control)) else {
         return tell_stop(&rt, Stop::OutOfMemory);
     };
@@ -78,24 +70,32 @@ fn main(rt: HostRuntime) -> ExitCode {
         return tell_stop(&rt, Stop::OutOfMemory);
     }
     let logged = Logged::new(rt, Level::Info, &*staff.book);
-    info!(logged; "start version={}", version());
-    if let Some(port) = status_port {
-        info!(logged; "status port={port}");
-    }
+    log_start(&logged, status_port);
     let hosting = Hosting {
-        stop: sign_for(may_stop, &staff.control.sign),
+        stop: sign_for(listening, &staff.control.sign),
         control,
     };
     let ended = listen(&logged, listening, hosting);
     info!(logged; "stop");
-    remove_control(&rt, listening.control);
-    staff.book.settle();
+    staff.close(&rt, listening.control);
     status_of(&rt, ended)
 }
 
+// Logs the start, and the port of the status.
+fn log_start<R: Log>(rt: &R, status_port: Option<u16>) {
+    info!(rt; "start version={}", version());
+    if let Some(port) = status_port {
+        info!(rt; "status port={port}");
+    }
+}
+
 // Returns the stop flag, if a console may set it.
-fn sign_for(may_stop: bool, sign: &StopSign) -> Option<&StopSign> {
-    if may_stop { Some(sign) } else { None }
+fn sign_for<'a>(listening: Listening<'_>, sign: &'a StopSign) -> Option<&'a StopSign> {
+    if listening.console || listening.control.is_some() {
+        Some(sign)
+    } else {
+        None
+    }
 }
 
 // Returns the exit status after the task was done, or stopped.
@@ -111,6 +111,14 @@ fn status_of<R: Eprint>(rt: &R, ended: Result<(), Stop>) -> ExitCode {
 // the block can't be allocated, this has no effect.
 fn keep_freed(alloc: Global) {
     let _ = Vec::<u8>::with_capacity(alloc, FREED_BYTES);
+}
+
+// Prints why there are no words. Returns the exit status.
+fn tell_unsettled<R: Print + Eprint>(rt: &R, unsettled: Unsettled) -> ExitCode {
+    match unsettled {
+        Unsettled::Words(fault) => tell_fault(rt, fault),
+        Unsettled::File(stop) => tell_stop(rt, stop),
+    }
 }
 
 // Prints why the words name no task, or the help or version that they ask for. Returns the exit status.

@@ -1,10 +1,10 @@
 //! The settings file.
 
 use crate::stop::Stop;
-use mud_cli::{CommandFault, config_in, with_config};
+use mud_cli::{CommandFault, config_in, with_config, words_of};
 use std::fs::{self, File};
 use std::io::ErrorKind;
-use std::rt::Files;
+use std::rt::{Env, Files};
 
 /// The reason why there are no words: they name no task, or the settings file can't be read.
 pub(crate) enum Unsettled {
@@ -13,10 +13,10 @@ pub(crate) enum Unsettled {
 }
 
 /// Returns the words of the command line, with those of the settings file if they name one.
-pub(crate) fn settled<R: Files<File = File> + AllocGlobal>(
+pub(crate) fn settled<R: Env + Files<File = File> + AllocGlobal>(
     rt: &R,
-    words: Vec<String>,
 ) -> Result<Vec<String>, Unsettled> {
+    let words = words_of(rt).map_err(Unsettled::Words)?;
     let Some(file) = config_in(&words) else {
         return Ok(words);
     };

@@ -127,6 +127,14 @@ impl<
             None => None,
         }
     }
+
+    /// Removes the socket of the consoles, if it has this name, and waits until the log is written.
+    pub(crate) fn close(&self, rt: &R, control: Option<&str>) {
+        if let Some(name) = control {
+            let _ = fs::remove_file(rt, name);
+        }
+        self.book.settle();
+    }
 }
 
 // Runs a console at each connection of the socket, in a thread of its own.
@@ -200,12 +208,5 @@ where
             return false;
         };
         thread::spawn(rt, move || serve_askers(&host, &listener)).is_ok()
-    }
-}
-
-/// Removes the socket of the consoles, if there is one.
-pub(crate) fn remove_control<R: Files<File = File>>(rt: &R, name: Option<&str>) {
-    if let Some(name) = name {
-        let _ = fs::remove_file(rt, name);
     }
 }

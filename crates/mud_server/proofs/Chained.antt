@@ -7,7 +7,8 @@ use Rattle.mud_server_state.specs.declared.limits.Limits.{Limits}
 use Rattle.mud_server_end.specs.Server.{MayEnd}
 use Rattle.mud_server.specs.MayBegin.{MayBegin}
 use Rattle.mud_server.specs.Volumes.{Volume, MayLast, Once, Again, IsWhole, AreVolumes, First, Next, Files, Finishes}
-use Rattle.mud_server.specs.inner.Between.{MayTurn, MayFollow, MayClose}
+use Rattle.mud_server.specs.Volumes.{FinishesFirst}
+use Rattle.mud_server.specs.inner.Between.{MayTurn, MayStop, MayFollow, MayClose}
 
 -- ---- one volume
 
@@ -57,6 +58,18 @@ turns limits begun now ended next kept old mid new so ends holds begins same fin
   begins = begins;
   finishes = finished ∙ ap (option_map (λ files. kept ∷ files)) same;
 }
+
+-- a turn failed after it had finished the volume, or before
+pub turn_stops : (limits : Limits) (begun now ended : List Entry) (kept : Option Kept) (old mid new : Files)
+    → HasLasted limits begun now → MayEnd limits now ended → Holds kept ended → mid ≡ old
+    → (new ≡ mid) ⊎ (new ≡ option_map (λ files. kept ∷ files) mid) → MayStop limits begun old new
+turn_stops limits begun now ended kept old mid new so ends holds same (inl still) = inl (still ∙ same)
+turn_stops limits begun now ended kept old mid new so ends holds same (inr finished) = inr (
+  record { begun = begun; ended = ended; kept = kept },
+  refl,
+  record { lasts = lasts limits begun now ended so ends; holds = holds },
+  finished ∙ ap (option_map (λ files. kept ∷ files)) same,
+)
 
 -- ---- one volume after another
 
@@ -121,3 +134,33 @@ closes_later limits loaded next history old mid new kept t c = record {
   holds = c.holds;
   finishes = finishes_first t.volume c.earlier old mid new t.finishes c.finishes;
 }
+
+-- ---- a server that fails
+
+-- it failed in the first volume, or in a later one
+pub stops : (limits : Limits) (loaded now : List Entry) (old mid new : Files) → HasFollowed limits loaded now old mid
+    → MayStop limits now mid new → FinishesFirst limits loaded old new
+stops limits loaded now old mid new (inl (is, same)) (inl still) = inl (still ∙ same)
+stops limits loaded now old mid new (inl (is, same)) (inr (volume, from, whole, finishes)) = inr (
+  volume ∷ [],
+  First volume (from ∙ is) whole,
+  subst (λ (files : Files). Finishes (volume ∷ []) files new) same finishes,
+)
+stops limits loaded now old mid new (inr f) (inl still) = inr (f.last ∷ f.earlier, f.are, still ∙ f.finishes)
+stops limits loaded now old mid new (inr f) (inr (volume, from, whole, finishes)) = inr (
+  volume ∷ f.last ∷ f.earlier,
+  Next f.earlier f.last volume f.are
+      (subst (λ (l : List Entry). MayBegin f.last.ended l) (sym from) f.begins) whole,
+  finishes_next volume (f.last ∷ f.earlier) old mid new f.finishes finishes,
+)
+
+-- it failed after its first turn
+pub stops_later : (limits : Limits) (loaded next : List Entry) (old mid new : Files)
+    → MayTurn limits loaded next old mid → FinishesFirst limits next mid new → FinishesFirst limits loaded old new
+stops_later limits loaded next old mid new t (inl still) =
+    inr (t.volume ∷ [], First t.volume t.from t.whole, still ∙ t.finishes)
+stops_later limits loaded next old mid new t (inr (volumes, are, finishes)) = inr (
+  volumes ++ (t.volume ∷ []),
+  before t.volume t.from t.whole t.begins are,
+  finishes_first t.volume volumes old mid new t.finishes finishes,
+)

@@ -7,7 +7,7 @@ use Rattle.mud_server.specs.declared.marks.Step.{Step}
 use Rattle.mud_server.specs.declared.marks.Step.TheVariants as step
 
 -- the numbers of changes, for a capacity: the search for a shorter history begins, the server turns once the search has
--- ended, and it turns in any case
+-- ended, and it turns while the search runs
 abbrev pub search_mark : ℕ → ℕ
 search_mark capacity = capacity - capacity / 4
 

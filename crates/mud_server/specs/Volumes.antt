@@ -45,6 +45,11 @@ Files = Option (List (Option Kept))
 abbrev pub Finishes : List Volume → Files → Files → Type 0
 Finishes volumes old new = new ≡ option_map (λ files. map (λ volume. volume.kept) volumes ++ files) old
 
+-- no volume was finished, or exactly the first ones of such a server were
+abbrev pub FinishesFirst : Limits → List Entry → Files → Files → Type 0
+FinishesFirst limits loaded old new =
+    (new ≡ old) ⊎ ((volumes : List Volume) × AreVolumes limits loaded volumes × Finishes volumes old new)
+
 -- all volumes but the last one were finished. The lines of some ports were written, and after them the whole text of
 -- the last volume
 pub record SettlesVolumes (limits : Limits) (has_web : Bool) (loaded : List Entry) (finished now_finished : Files)
@@ -56,12 +61,15 @@ pub record SettlesVolumes (limits : Limits) (has_web : Bool) (loaded : List Entr
   pub finishes : Finishes earlier finished now_finished
   pub written : Appends held now_held (lines_of has_web opening ++ history_text Two last.ended)
 
--- a prefix of the lines was written, or the lines and a prefix of the text of such a volume
-abbrev pub SettlesVolumesInPart : Limits → (has_web : Bool) → List Entry → Option (List ℕ) → Option (List ℕ) → Type 0
-SettlesVolumesInPart limits has_web loaded held now_held =
-    ((opening : Opening has_web) × (n : ℕ) × Appends held now_held (take n (lines_of has_web opening)))
+-- the first volumes were finished, or none, and a prefix of the lines was written. Or all volumes but the last one were
+-- finished, and the lines and a prefix of the text of the last one were written
+abbrev pub SettlesVolumesInPart : Limits → (has_web : Bool) → List Entry → Files → Files → Option (List ℕ)
+    → Option (List ℕ) → Type 0
+SettlesVolumesInPart limits has_web loaded finished now_finished held now_held =
+    (FinishesFirst limits loaded finished now_finished
+    × (opening : Opening has_web) × (n : ℕ) × Appends held now_held (take n (lines_of has_web opening)))
     ⊎ ((opening : Opening has_web) × (n : ℕ) × (earlier : List Volume) × (last : Volume)
-    × AreVolumes limits loaded (last ∷ earlier)
+    × AreVolumes limits loaded (last ∷ earlier) × Finishes earlier finished now_finished
     × Appends held now_held (lines_of has_web opening ++ take n (history_text Two last.ended)))
 
 -- a property of the journal of the first volume, and one of a later one's

@@ -3,7 +3,7 @@
 ghost use Rattle.mud_server.specs.Marks.{NoTurnAtOnce};
 
 /// Unless the host requests it, a server turns to its next volume only with more changes than any volume begins with.
-/// So a volume is never turned at once.
+/// So a next volume turns by itself only after further changes.
 pub fn no_turn_at_once()
     ensures { NoTurnAtOnce }
 {}

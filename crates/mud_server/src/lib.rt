@@ -22,9 +22,10 @@
 //!
 //! Proved: the output. With Ok it is the lines that name the ports, and the text of a history. That history can be
 //! loaded again, begins with the loaded entries, and has no more desks after them than simultaneous sessions. After a
-//! fault the output is a prefix of such a text. Volumes are a chain: each begins in the world in which the last one
-//! ended, and the file of each has its whole history. No contract states that the history is that of the sessions, that
-//! any session is served or outlives a turn, that a change wakes a thread, or that a desk is returned; tests show it.
+//! fault the output is a prefix of such a text. Volumes are a chain: each later one begins in the world in which the
+//! one before it ended, and the file of each has its whole history. No contract states that the history is that of the
+//! sessions, that any session is served or outlives a turn, that a change wakes a thread, or that a desk is returned;
+//! tests show it.
 #![tactic(auto)]
 
 mod beginning;

@@ -17,14 +17,14 @@ pub fn turn_mark(capacity: usize) -> usize
     capacity - capacity / 8
 }
 
-/// The number of changes from which the server turns in any case.
+/// The number of changes from which the server turns while the search runs, unless the world is known to be large.
 pub fn last_mark(capacity: usize) -> usize
     ensures { result ≡ last_mark capacity }
 {
     capacity - capacity / 16
 }
 
-/// The greatest number of changes with which a next volume begins: fewer than the number from which it turns itself.
+/// The greatest number of changes with which a next volume begins: fewer than those at which a server turns by itself.
 pub fn most_begun(capacity: usize) -> usize
     ensures most { result ≡ most_begun capacity }
     ensures fewer { 1 ≤ capacity → result < turn_mark capacity }

@@ -187,7 +187,8 @@ impl Turning {
         }
     }
 
-    // Records that the world takes most of a volume by itself. The log says so once, and at each request of the host.
+    // Records that the world takes most of a volume by itself. The log says so once until the next turn, and at a
+    // request of the host that there is no turn.
     fn tell_large<'s, E, J, R>(
         &self,
         server: &Server<'s, E, J, R>,

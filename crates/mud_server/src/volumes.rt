@@ -1,6 +1,7 @@
 //! A server that keeps its history on a disk, volume by volume.
 
-ghost use Rattle.std.specs.Prelude.{◌≡◌, ◌≤◌, ◌<◌, ℕ, ◌∷◌, length, take, is_some, IfOk, IfErr, IfNone, OnOk, OnErr};
+ghost use Rattle.std.specs.Prelude.{◌≡◌, ◌⊎◌, ◌≤◌, ◌<◌, ℕ, ◌∷◌, length, take, is_some, IfOk, IfErr, IfNone, OnOk};
+ghost use Rattle.std.specs.Prelude.{OnErr};
 ghost use Rattle.std.specs.Option.{option_map};
 ghost use Rattle.std.specs.Io.KnownBytes.{Appends};
 ghost use Rattle.mud_io.specs.Streams.{Writer};
@@ -14,9 +15,10 @@ ghost use Rattle.mud_shelf.specs.Volume.{durable};
 ghost use Rattle.mud_search.specs.declared.limits.TheConstants.{MOST_WORKERS};
 ghost use Rattle.mud_server_end.specs.Server.{MayEnd, IsServerFault, IsInnerFault};
 ghost use Rattle.mud_server.specs.MayBegin.{MayBegin};
-ghost use Rattle.mud_server.specs.Volumes.{MayLast, SettlesVolumes, SettlesVolumesInPart, MatchLast};
+ghost use Rattle.mud_server.specs.Volumes.{MayLast, SettlesVolumes, SettlesVolumesInPart, FinishesFirst, MatchLast};
 ghost use Rattle.mud_server.specs.inner.Passed.{MatchOutcome, MatchTurned};
-ghost use Rattle.mud_server.specs.inner.Between.{IsReady, MayTurn, MayClose, WritesLast, WritesLastInPart, IsLateFault};
+ghost use Rattle.mud_server.specs.inner.Between.{IsReady, MayTurn, MayStop, MayClose, WritesLast, WritesLastInPart};
+ghost use Rattle.mud_server.specs.inner.Between.{IsLateFault};
 
 use crate::beginning::{Next, NoNext, Volumes, beginning_of, make_next};
 use crate::census::count_objects;
@@ -164,12 +166,13 @@ fn begin_again<D: Disk + Drop>(
     })
 }
 
-// Logs and records that a world takes most of a volume by itself.
+// Logs and records that a world takes most of a volume by itself, and that there is no turn.
 fn tell_large<R: Log>(rt: &R, terms: Terms<'_>, volume: u32, taken: usize) {
     let most = terms.limits.capacity;
     if !terms.control.tally.note_large_world(taken as u64) {
         warn!(rt; "large-world volume={volume} takes={taken} most={most}");
     }
+    warn!(rt; "no-turn volume={volume} why=\"the world takes most of a volume\"");
 }
 
 // Makes the volume after one that came to rest.
@@ -187,8 +190,12 @@ fn next_of<S: Shelf, D: Disk + Drop, R: Log>(
     ensures ready { IfOk result (λ n. IsReady (option_map durable (S.Draft.stage n.journal.disk.draft))
         n.journal.count n.journal.has_failed n.begun.items) }
 {
-    let begun = beginning_of(alloc, capacity, &rested.entries, proposal)?;
-    make_next(rt, alloc, volumes, rested.volume, begun)
+    let volume = rested.volume;
+    let begun = beginning_of(alloc, capacity, &rested.entries, proposal);
+    if let Err(NoNext::CalledOff) = &begun {
+        warn!(rt; "no-turn volume={volume} why=\"out of memory\"");
+    }
+    make_next(rt, alloc, volumes, volume, begun?)
 }
 
 // Turns from a volume that came to rest, if it can. Otherwise the same volume goes on, with all of its entries.
@@ -215,6 +222,9 @@ fn turn_from<S: Shelf, D: Disk + Drop, R: Wait + Log>(
         × IsReady (D.kept same.beginning.journal.disk) same.beginning.journal.count
         same.beginning.journal.has_failed same.beginning.hall.loaded
         × (S.finished volumes.new.shelf ≡ S.finished volumes.old.shelf))) }
+    ensures stopped { OnErr result ((S.finished volumes.new.shelf ≡ S.finished volumes.old.shelf)
+        ⊎ (S.finished volumes.new.shelf
+        ≡ option_map (λ files. D.kept resting.rested.journal.disk ∷ files) (S.finished volumes.old.shelf))) }
     ensures fault { IfErr result IsInnerFault }
 {
     let Resting {
@@ -321,6 +331,8 @@ fn serve_until_turn<S: Shelf, D: Disk + Drop, R: Threads + Wait + Log + Clock + 
         (S.finished volumes.old.shelf) (S.finished volumes.new.shelf)
         × IsReady (option_map durable (S.Draft.stage next.beginning.journal.disk.draft))
         next.beginning.journal.count next.beginning.journal.has_failed next.beginning.hall.loaded)) }
+    ensures stopped { OnErr result (MayStop terms.entry.limits going.beginning.hall.loaded
+        (S.finished volumes.old.shelf) (S.finished volumes.new.shelf)) }
     ensures fault { IfErr result IsInnerFault }
 {
     let mut going = going;
@@ -353,6 +365,8 @@ fn serve_later<S: Shelf, R: Threads + Wait + Log + Clock + Sync>(
     ensures closes { IfOk result (λ e. MayClose terms.entry.limits going.beginning.hall.loaded
         (S.finished volumes.old.shelf) (S.finished volumes.new.shelf)
         (option_map durable (S.Draft.stage e.journal.disk.draft)) e.history) }
+    ensures stopped { OnErr result (FinishesFirst terms.entry.limits going.beginning.hall.loaded
+        (S.finished volumes.old.shelf) (S.finished volumes.new.shelf)) }
     ensures fault { IfErr result IsInnerFault }
 {
     let mut going = going;
@@ -414,7 +428,7 @@ fn serve_volumes<S: Shelf, D: Disk + Drop, R: Threads + Wait + Log + Clock + Syn
         × MatchLast (λ f. Holds (D.kept f.disk) w.last.ended)
         (λ l. Holds (option_map durable (S.Draft.stage l.disk.draft)) w.last.ended) journal) }
     ensures front { OnErr result (WritesLastInPart terms.entry.limits first.beginning.hall.loaded
-        out.old.holds out.new.holds) }
+        (S.finished volumes.old.shelf) (S.finished volumes.new.shelf) out.old.holds out.new.holds) }
     ensures fault { IfErr result (IsLateFault out.new) }
     ensures total { OnOk result (IfNone terms.entry.stop (0 < terms.entry.limits.total)) }
 {
@@ -489,7 +503,8 @@ pub enum LastJournal<F, L> {
 /// which had their whole histories when they were finished.
 ///
 /// `Load` comes before anything is written, also to the journal. After `Open` the volume has its old contents, or all
-/// loaded entries. After `Journal` all sessions have ended.
+/// loaded entries. After `Journal` all sessions have ended. After any error no volume was finished, or exactly the
+/// first ones of such a server were, and each is whole.
 pub fn listen_volumes<S: Shelf, R: Threads + Wait + Log + Clock + Sync + AllocGlobal, W: Write>(
     rt: &R,
     volumes: &mut Volumes<'_, S>,
@@ -514,7 +529,7 @@ pub fn listen_volumes<S: Shelf, R: Threads + Wait + Log + Clock + Sync + AllocGl
         × MatchLast (λ f. Holds (S.Disk.kept f.disk) s.last.ended)
         (λ l. Holds (option_map durable (S.Draft.stage l.disk.draft)) s.last.ended) journal) }
     ensures front { OnErr result (SettlesVolumesInPart limits (is_some doors.web) first.loaded.items
-        out.old.holds out.new.holds) }
+        (S.finished volumes.old.shelf) (S.finished volumes.new.shelf) out.old.holds out.new.holds) }
     ensures fault { IfErr result (IsServerFault limits.capacity first.loaded.items out.old out.new) }
     ensures total { OnOk result (IfNone hosting.entry.stop (0 < limits.total)) }
 {

@@ -85,7 +85,7 @@ impl<H, P, G> ServerState<H, P, G> {
         self.is_stopping.store(true, Ordering::SeqCst);
     }
 
-    /// Logs a warning, once, if the history has at least nine tenths of the changes that it can hold.
+    /// Logs a warning, once in each hall, if the history has at least nine tenths of the changes that it can hold.
     pub fn warn_if_nearly_full<R: Log>(&self, rt: &R, changes: usize) {
         let most = self.limits.capacity as usize;
         if changes < most - most / 10 || self.was_warned.swap(true, Ordering::SeqCst) {

@@ -37,7 +37,7 @@ pub struct Quay {
 }
 
 impl Guest {
-    /// Ends the session for this reason, if the other side takes its last line soon.
+    /// Ends the session for this reason, and sends its last line if the other side takes it soon.
     pub fn part<R: Wait + Log>(self, rt: &R, ending: Ending) {
         let Guest {
             socket,

@@ -9,20 +9,11 @@ use Rattle.mud_nvt.specs.Units.{Given, units}
 use Rattle.mud_nvt.specs.History.{StandsAfter}
 use Rattle.mud_nvt.specs.UnitViews.{unit_shown, all_shown}
 use Rattle.mud_session.specs.State.{SessionState, DoorState}
-use Rattle.mud_session.specs.Session.{TakingIn, Does, Play, is_last, is_over, text_of}
+use Rattle.mud_session.specs.Session.{TakingIn, Does, is_last, is_over, text_of}
 use Rattle.mud_session.specs.Feeds.{Feeds}
 use Rattle.mud_session.specs.inner.TurnTexts.{HasTurn}
+use Rattle.mud_session.specs.inner.Feeding.{SoFar, Fed}
 use Rattle.mud_session.proofs.Playing.{unit_in, text_in, joined, is_over-append, text_of-append}
-
--- each of these units had its turn, up to the last one, and their output can be taken out
-pub record SoFar (T : TakingIn) (units : List Given) (old new : SessionState) (old_door new_door : DoorState)
-    : Type 0 where
-  pub play : Play T old_door.capacity old_door.desk units new_door.desk
-  pub capacity : new_door.capacity ≡ old_door.capacity
-  pub ended : new.has_ended ≡ is_over play.turns
-  pub all : new.has_ended ≡ false → play.left ≡ []
-  pub terminal : new.terminal ≡ old.terminal
-  pub out : new.out ≡ old.out ++ text_of play.turns
 
 pub SoFar-none : (T : TakingIn) (s : SessionState) (d : DoorState) → s.has_ended ≡ false → SoFar T [] s s d d
 SoFar-none T s d goes = record {
@@ -30,7 +21,6 @@ SoFar-none T s d goes = record {
   capacity = refl;
   ended = goes;
   all = λ _. refl;
-  terminal = refl;
   out = sym (append-nil s.out);
 }
 
@@ -60,7 +50,6 @@ turned T us u a b c da db dc so_far goes capacity has =
       capacity = capacity ∙ so_far.capacity;
       ended = has.ended ∙ sym (or-false (is_last turn.case)) ∙ sym (is_over-append turns (turn ∷ []) going);
       all = λ _. refl;
-      terminal = has.terminal ∙ so_far.terminal;
       out = has.out ∙ ap (λ (l : List ℕ). l ++ text_in turn) so_far.out
           ∙ append_assoc a.out (text_of turns) (text_in turn)
           ∙ ap (λ (l : List ℕ). a.out ++ (text_of turns ++ l)) (sym (append-nil (text_in turn)))
@@ -88,7 +77,6 @@ passed_over T us u a b da db so_far over =
       capacity = so_far.capacity;
       ended = so_far.ended;
       all = λ goes. absurd (true≢false (sym over ∙ goes));
-      terminal = so_far.terminal;
       out = so_far.out;
     }
 
@@ -100,38 +88,88 @@ shown_more units i unit lt here =
     ∙ ap (λ u. all_shown (take i units) ++ unit_shown u ∷ []) (sym here)
 
 -- one more unit
-pub SoFar-more : (T : TakingIn) (units : List (CodeUnit Global)) (i : ℕ) (unit : CodeUnit Global) (a b c : SessionState)
-    (da db dc : DoorState)
-    → i < length units → unit ≡ get_or units i unit → SoFar T (all_shown (take i units)) a b da db
+pub SoFar-more : (T : TakingIn) (xs : List Given) (units : List (CodeUnit Global)) (i : ℕ) (unit : CodeUnit Global)
+    (a b c : SessionState) (da db dc : DoorState)
+    → i < length units → unit ≡ get_or units i unit → SoFar T (xs ++ all_shown (take i units)) a b da db
     → dc.capacity ≡ db.capacity
     → (b.has_ended ≡ true → (c ≡ b) × (dc ≡ db)) → (b.has_ended ≡ false → HasTurn T (unit_shown unit) b c db dc)
-    → SoFar T (all_shown (take (i + 1) units)) a c da dc
-SoFar-more T units i unit a b c da db dc lt here so_far capacity over turn =
-    let us = all_shown (take i units) ++ unit_shown unit ∷ [] in
-    subst (λ (l : List Given). SoFar T l a c da dc) (sym (shown_more units i unit lt here))
+    → SoFar T (xs ++ all_shown (take (i + 1) units)) a c da dc
+SoFar-more T xs units i unit a b c da db dc lt here so_far capacity over turn =
+    let was = xs ++ all_shown (take i units) in
+    let us = was ++ unit_shown unit ∷ [] in
+    subst (λ (l : List Given). SoFar T l a c da dc)
+    (append_assoc xs (all_shown (take i units)) (unit_shown unit ∷ [])
+    ∙ ap (λ l. xs ++ l) (sym (shown_more units i unit lt here)))
     (elim (cases_Bool b.has_ended) as (λ _. SoFar T us a c da dc) [
       | inl e ↦ subst (λ (s : SessionState). SoFar T us a s da dc) (sym (over e).0)
           (subst (λ (d : DoorState). SoFar T us a b da d) (sym (over e).1)
-          (passed_over T _ (unit_shown unit) a b da db so_far e))
-      | inr e ↦ turned T _ (unit_shown unit) a b c da db dc so_far e capacity (turn e)
+          (passed_over T was (unit_shown unit) a b da db so_far e))
+      | inr e ↦ turned T was (unit_shown unit) a b c da db dc so_far e capacity (turn e)
     ])
 
--- the units of more bytes had their turns
-pub Feeds-from : (T : TakingIn) (earlier bytes : List ℕ) (old begun new : SessionState) (old_door new_door : DoorState)
-    (us fresh : List Given)
-    → StandsAfter begun.terminal (earlier ++ bytes) → units (earlier ++ bytes) ≡ units earlier ++ fresh → us ≡ fresh
-    → old.has_ended ≡ false → begun.out ≡ old.out → SoFar T us begun new old_door new_door
+-- no more unit
+pub SoFar-start : (T : TakingIn) (xs : List Given) (a b : SessionState) (da db : DoorState)
+    → SoFar T xs a b da db → SoFar T (xs ++ []) a b da db
+SoFar-start T xs a b da db so_far = subst (λ (l : List Given). SoFar T l a b da db) (sym (append-nil xs)) so_far
+
+-- the terminal of the session does not matter
+pub SoFar-terminal : (T : TakingIn) (us : List Given) (a b c : SessionState) (da db : DoorState)
+    → c.has_ended ≡ b.has_ended → c.out ≡ b.out → SoFar T us a b da db → SoFar T us a c da db
+SoFar-terminal T us a b c da db ended out so_far = record {
+  play = so_far.play;
+  capacity = so_far.capacity;
+  ended = ended ∙ so_far.ended;
+  all = λ goes. so_far.all (sym ended ∙ goes);
+  out = out ∙ so_far.out;
+}
+
+-- before any byte
+pub Fed-none : (T : TakingIn) (earlier : List ℕ) (s : SessionState) (d : DoorState) → s.has_ended ≡ false
+    → StandsAfter s.terminal earlier → Fed T earlier [] s s d d
+Fed-none T earlier s d goes stands = record {
+  stands = subst (StandsAfter s.terminal) (sym (append-nil earlier)) stands;
+  fresh = [];
+  units = ap units (append-nil earlier) ∙ sym (append-nil (units earlier));
+  so_far = SoFar-none T s d goes;
+}
+
+-- after more bytes, whose units had their turns
+pub Fed-more : (T : TakingIn) (earlier bytes more : List ℕ) (old was new : SessionState)
+    (old_door was_door new_door : DoorState) (us : List Given)
+    → (fed : Fed T earlier bytes old was old_door was_door)
+    → StandsAfter new.terminal ((earlier ++ bytes) ++ more)
+    → units ((earlier ++ bytes) ++ more) ≡ units (earlier ++ bytes) ++ us
+    → SoFar T (fed.fresh ++ us) old new old_door new_door
+    → Fed T earlier (bytes ++ more) old new old_door new_door
+Fed-more T earlier bytes more old was new old_door was_door new_door us fed stands more_units so_far = record {
+  stands = subst (StandsAfter new.terminal) (append_assoc earlier bytes more) stands;
+  fresh = fed.fresh ++ us;
+  units = ap units (sym (append_assoc earlier bytes more)) ∙ more_units ∙ ap (λ l. l ++ us) fed.units
+      ∙ append_assoc (units earlier) fed.fresh us;
+  so_far = so_far;
+}
+
+-- all bytes
+pub Feeds-from : (T : TakingIn) (earlier bytes : List ℕ) (old new : SessionState) (old_door new_door : DoorState)
+    → old.has_ended ≡ false → Fed T earlier bytes old new old_door new_door
     → Feeds T earlier bytes old new old_door new_door
-Feeds-from T earlier bytes old begun new old_door new_door us fresh stands more is goes same_out so_far =
-    let one : SoFar T fresh begun new old_door new_door =
-    subst (λ (l : List Given). SoFar T l begun new old_door new_door) is so_far in
-    record {
-      stands = subst (λ h. StandsAfter h (earlier ++ bytes)) (sym one.terminal) stands;
-      fresh = fresh;
-      units = more;
-      play = one.play;
-      goes_on = goes;
-      ended = one.ended;
-      all = one.all;
-      out = one.out ∙ ap (λ (o : List ℕ). o ++ text_of one.play.turns) same_out;
-    }
+Feeds-from T earlier bytes old new old_door new_door goes fed = record {
+  stands = fed.stands;
+  fresh = fed.fresh;
+  units = fed.units;
+  play = fed.so_far.play;
+  goes_on = goes;
+  ended = fed.so_far.ended;
+  all = fed.so_far.all;
+  out = fed.so_far.out;
+}
+
+-- a unit leaves the terminal as it is
+pub same_terminal : (T : TakingIn) (u : Given) (b c : SessionState) (db dc : DoorState)
+    → (b.has_ended ≡ true → (c ≡ b) × (dc ≡ db)) → (b.has_ended ≡ false → HasTurn T u b c db dc)
+    → c.terminal ≡ b.terminal
+same_terminal T u b c db dc over turn =
+    elim (cases_Bool b.has_ended) as (λ _. c.terminal ≡ b.terminal) [
+      | inl e ↦ ap (λ (s : SessionState). s.terminal) (over e).0
+      | inr e ↦ (turn e).terminal
+    ]

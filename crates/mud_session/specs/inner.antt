@@ -1,3 +1,4 @@
 pub mod Wire
 pub mod Service
 pub mod TurnTexts
+pub mod Feeding

@@ -1,6 +1,6 @@
 //! Sessions: bytes in, bytes out.
 
-ghost use Rattle.std.specs.Prelude.{◌≡◌, ◌≢◌, ℕ, List, [], false, true, if◌then◌else◌, Err, codes};
+ghost use Rattle.std.specs.Prelude.{◌≡◌, ◌≢◌, ◌++◌, ℕ, List, [], false, true, if◌then◌else◌, Err, codes};
 ghost use Rattle.std.specs.Prelude.{OnOk, OnErr, IfOk, string_bytes};
 ghost use Rattle.mud_nvt.specs.History.{StandsAfter};
 ghost use Rattle.mud_nvt.specs.Units.{Text};
@@ -8,8 +8,7 @@ ghost use Rattle.mud_nvt.specs.UnitViews.{unit_shown};
 
 use crate::door::Door;
 use crate::fault::SessionFault;
-use crate::wiring::{answer_on_wire, push_end, push_on_wire};
-use itoa::Buffer;
+use crate::wiring::{answer_on_wire, line_len, push_end, push_number, push_on_wire};
 use mud_hall::{Fault, Reply};
 use mud_nvt::{Nvt, Unit};
 use mud_rules::laws::questions;
@@ -53,6 +52,8 @@ impl Session {
     ghost use Rattle.mud_session.specs.Session.{wire_text, with_version};
     ghost use Rattle.mud_session.specs.inner.TurnTexts.{sends, sent_for, Told, IsSaid, HasTurn};
     ghost use Rattle.mud_session.specs.Feeds.{Feeds, Nudges};
+    ghost use Rattle.mud_session.specs.State.{SessionState, DoorState};
+    ghost use Rattle.mud_session.specs.inner.Feeding.{Fed};
 
     /// Returns a session in its initial state, whose output is empty or the greeting. The only error is out of memory.
     pub fn new(alloc: Global, greet: bool) -> Result<Session, AllocError>
@@ -118,13 +119,37 @@ impl Session {
             return Err(SessionFault::Ended);
         }
         let mut units = Vec::new(self.alloc);
-        let Ok(()) = self.terminal.feed(bytes, &mut units) else {
-            return Err(self.end());
-        };
-        for unit in &units {
-            let Ok(()) = self.answer(rt, door, unit) else {
+        let mut taken = 0;
+        while taken < bytes.len() {
+            let end = taken + line_len(&bytes[taken..]);
+            let Ok(()) = self.feed_line(rt, door, &bytes[taken..end], &mut units) else {
                 return Err(self.end());
             };
+            taken = end;
+        }
+        Ok(())
+    }
+
+    // Consumes the bytes of a line, and plays the turns of the units that they complete. A line is freed before the
+    // next one is read, so that its memory is used again.
+    fn feed_line<X: Threads + Wait + Sync, D: Door>(
+        &mut self,
+        rt: &X,
+        door: &mut D,
+        bytes: &[u8],
+        units: &mut Vec<Unit>,
+    ) -> Result<(), AllocError>
+        ensures fed { OnOk result ((earlier front : List ℕ) (start : SessionState) (begun : DoorState)
+            → Fed D.takes_in earlier front start self.old begun (D.state door.old)
+            → Fed D.takes_in earlier (front ++ bytes.now) start self.new begun (D.state door.new)) }
+        ensures capacity { (D.state door.new).capacity ≡ (D.state door.old).capacity }
+    {
+        units.clear();
+        let Ok(()) = self.terminal.feed(bytes, units) else {
+            return Err(AllocError);
+        };
+        for unit in units.as_slice() {
+            self.answer(rt, door, unit)?;
         }
         Ok(())
     }
@@ -283,8 +308,9 @@ impl Session {
     {
         self.out.reserve(text.len().saturating_add(NUMBERED_BYTES))?;
         self.out.push(b'[')?;
-        self.send_bytes(Buffer::new().format(version).as_bytes())?;
-        self.send_bytes(b"] ")?;
+        push_number(&mut self.out, version)?;
+        self.out.push(b']')?;
+        self.out.push(b' ')?;
         self.send(text)
     }
 

@@ -1,6 +1,7 @@
 //! Encodes output: each LF becomes CR LF.
 
-ghost use Rattle.std.specs.Prelude.{◌≡◌, ◌++◌, ◌∷◌, [], ◌+◌, ◌≤◌, length, take, drop, IfOk, OnOk, string_bytes};
+ghost use Rattle.std.specs.Prelude.{◌≡◌, ◌++◌, ◌∷◌, [], ◌+◌, ◌≤◌, ◌<◌, length, take, drop, IfOk, OnOk, string_bytes};
+ghost use Rattle.std.specs.Prelude.{decimal};
 ghost use Rattle.mud_nvt.specs.declared.codes.TheConstants.{LF, CR};
 ghost use Rattle.std.specs.List.{flat_map};
 ghost use Rattle.mud_session.specs.inner.Wire.{on_wire};
@@ -29,6 +30,30 @@ pub(crate) fn push_end(out: &mut Vec<u8>) -> Result<(), AllocError>
     out.push(b'\r')?;
     out.push(b'\n')?;
     Ok(())
+}
+
+/// Appends a number in decimal. Most numbers have few digits, and pushing each is faster than formatting a text.
+#[tactic(auto, using(std::proofs::lemmas::Fmt::decimal_digit, std::proofs::lemmas::Fmt::decimal_step))]
+pub(crate) fn push_number(out: &mut Vec<u8>, number: u32) -> Result<(), AllocError>
+    ensures { OnOk result (out.new.items ≡ out.old.items ++ decimal number) }
+{
+    if number >= 10 {
+        push_number(out, number / 10)?;
+    }
+    out.push(b'0' + (number % 10) as u8)?;
+    Ok(())
+}
+
+/// Returns the number of bytes up to the first LF and with it, or of all without one.
+pub(crate) fn line_len(bytes: &[u8]) -> usize
+    requires { 0 < length bytes.now }
+    ensures some { 0 < result }
+    ensures within { result ≤ length bytes.now }
+{
+    match memchr(b'\n', bytes) {
+        Some(at) => at + 1,
+        None => bytes.len(),
+    }
 }
 
 /// Appends the number of an answer and its text. The text is expanded in place, so it is in memory only once.

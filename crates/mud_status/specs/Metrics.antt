@@ -32,9 +32,9 @@ about_text name kind help =
 abbrev pub metric_text : Metric → List ℕ
 metric_text m = about_text m.name m.kind m.help ++ m.name ++ codes " " ++ decimal m.value ++ codes "\n"
 
--- the metrics of a status
-abbrev pub metrics_of : Status → List Metric
-metrics_of s =
+-- the metrics of the server and its world
+abbrev pub server_metrics_of : Status → List Metric
+server_metrics_of s =
     gauge (codes "mud_start_time_seconds") (codes "Time of the server's start, in seconds since 1970.") s.since_seconds
     ∷ gauge (codes "mud_well") (codes "1 if the server accepts connections and changes.") (is_well s.health)
     ∷ gauge (codes "mud_changes") (codes "Changes in the history.") s.changes
@@ -42,7 +42,12 @@ metrics_of s =
     ∷ gauge (codes "mud_synced_changes") (codes "Changes that the journal has synced.") s.synced
     ∷ gauge (codes "mud_objects") (codes "Objects in the world.") s.objects
     ∷ gauge (codes "mud_objects_most") (codes "Greatest number of objects in the world.") s.most_objects
-    ∷ gauge (codes "mud_sessions") (codes "Sessions.") s.sessions
+    ∷ []
+
+-- the metrics of the sessions and their lines
+abbrev pub session_metrics_of : Status → List Metric
+session_metrics_of s =
+    gauge (codes "mud_sessions") (codes "Sessions.") s.sessions
     ∷ gauge (codes "mud_sessions_most") (codes "Greatest number of sessions.") s.most_sessions
     ∷ gauge (codes "mud_players") (codes "Sessions with a player.") s.players
     ∷ counter (codes "mud_sessions_begun_total") (codes "Sessions that have begun.") s.begun
@@ -69,7 +74,8 @@ abbrev pub metrics_text : Status → List ℕ
 metrics_text s =
     about_text (codes "mud_build_info") (codes "gauge") (codes "The program's version.")
     ++ codes "mud_build_info{version=\"" ++ s.version.now ++ codes "\"} 1\n"
-    ++ flat_map metric_text (metrics_of s)
+    ++ flat_map metric_text (server_metrics_of s)
+    ++ flat_map metric_text (session_metrics_of s)
     ++ flat_map metric_text (volume_metrics_of s)
     ++ about_text (codes "mud_refused_total") (codes "counter") (codes "Refused connections, by reason.")
     ++ refused_text (codes "full") s.refused_full

@@ -1,8 +1,8 @@
 //! The status as metrics, in the text format of Prometheus, version 0.0.4.
 
 ghost use Rattle.std.specs.Prelude.{◌≡◌, ◌++◌, map, flat_map, IfOk, OnOk, string_bytes};
-ghost use Rattle.mud_status.specs.Metrics.{about_text, counter, gauge, metric_text, metrics_of, volume_metrics_of};
-ghost use Rattle.mud_status.specs.Metrics.{refused_text, metrics_text};
+ghost use Rattle.mud_status.specs.Metrics.{about_text, counter, gauge, metric_text, server_metrics_of};
+ghost use Rattle.mud_status.specs.Metrics.{session_metrics_of, volume_metrics_of, refused_text, metrics_text};
 ghost use Rattle.mud_status.specs.inner.Rows.{metric_of};
 
 use crate::status::Status;
@@ -42,9 +42,9 @@ fn counter(name: &'static str, help: &'static str, value: u64) -> Metric
     }
 }
 
-// Returns the metrics of a status.
-fn metrics_of(status: &Status<'_>) -> [Metric; 14]
-    ensures { map metric_of result ≡ metrics_of status.now }
+// Returns the metrics of the server and its world.
+fn server_metrics_of(status: &Status<'_>) -> [Metric; 7]
+    ensures { map metric_of result ≡ server_metrics_of status.now }
 {
     let well = status.health.as_number();
     [
@@ -75,6 +75,14 @@ fn metrics_of(status: &Status<'_>) -> [Metric; 14]
             "Greatest number of objects in the world.",
             status.most_objects,
         ),
+    ]
+}
+
+// Returns the metrics of the sessions and their lines.
+fn session_metrics_of(status: &Status<'_>) -> [Metric; 7]
+    ensures { map metric_of result ≡ session_metrics_of status.now }
+{
+    [
         gauge("mud_sessions", "Sessions.", status.sessions),
         gauge(
             "mud_sessions_most",
@@ -176,7 +184,8 @@ pub fn metrics_text(alloc: Global, status: &Status<'_>) -> Result<String, AllocE
     text.push_str("mud_build_info{version=\"")?;
     text.push_str(status.version)?;
     text.push_str("\"} 1\n")?;
-    write_metrics(&mut text, &metrics_of(status))?;
+    write_metrics(&mut text, &server_metrics_of(status))?;
+    write_metrics(&mut text, &session_metrics_of(status))?;
     write_metrics(&mut text, &volume_metrics_of(status))?;
     write_about(
         &mut text,

@@ -1,4 +1,4 @@
-ghost use Rattle.std.specs.Prelude.{◌≡◌, ℕ, List, [], ◌∷◌, IsFalse, map, string_bytes, IfOk};
+ghost use Rattle.std.specs.Prelude.{◌≡◌, ℕ, List, [], ◌∷◌, IsFalse, IsTrue, map, string_bytes, IfOk};
 ghost use Rattle.std.specs.Cow.{cow_str_bytes};
 ghost use Rattle.mud_words.specs.Words.{plain_words, without_front, without_back};
 ghost use Rattle.std.specs.Str.{str_to_ascii_lowercase as lower};
@@ -76,7 +76,7 @@ fn split<'a>(
     ensures { IfOk result (λ p. line_of p
         ≡ split (cow_str_bytes verb.entry) (map cow_str_bytes args.entry.items) rest.now) }
 {
-    let objects = objects_of(alloc, args.as_slice())?;
+    let objects = objects_of(alloc, rest, args.as_slice())?;
     Ok(Parsed {
         verb,
         args,
@@ -95,13 +95,18 @@ pub(crate) struct Objects<'a> {
     pub indirect: CowStr<'a, Global>,
 }
 
-/// Returns the objects before and after the preposition that counts.
-fn objects_of<'a>(alloc: Global, args: &[CowStr<'a, Global>]) -> Result<Objects<'a>, AllocError>
+/// Returns the objects before and after the preposition that counts. Words that stand in the text with one space
+/// between them are not copied.
+fn objects_of<'a>(
+    alloc: Global,
+    text: &'a str,
+    args: &[CowStr<'a, Global>],
+) -> Result<Objects<'a>, AllocError>
     ensures { IfOk result (λ o. (verb rest : List ℕ) →
         line_with verb (map cow_str_bytes args.now) rest o ≡ split verb (map cow_str_bytes args.now) rest) }
 {
     let Some(spot) = preposition_of(args) else {
-        let direct = join_words(alloc, args)?;
+        let direct = join_in(alloc, text, args)?;
         return Ok(Objects {
             direct,
             prep: None,
@@ -115,6 +120,37 @@ fn objects_of<'a>(alloc: Global, args: &[CowStr<'a, Global>]) -> Result<Objects<
         prep: Some(spot.prep),
         indirect,
     })
+}
+
+// Returns the words joined by one space. If the text is just that, it is not copied.
+fn join_in<'a>(
+    alloc: Global,
+    text: &'a str,
+    words: &[CowStr<'a, Global>],
+) -> Result<CowStr<'a, Global>, AllocError>
+    ensures { IfOk result (λ text. cow_str_bytes text ≡ join_words (map cow_str_bytes words.now)) }
+{
+    if is_joined(text.as_bytes(), words) {
+        return Ok(CowStr::Borrowed(text));
+    }
+    join_words(alloc, words)
+}
+
+// Returns whether a text is these words, joined by one space.
+fn is_joined(text: &[u8], words: &[CowStr<'_, Global>]) -> bool
+    ensures { IsTrue result → text.now ≡ join_words (map cow_str_bytes words.now) }
+{
+    let [first, others @ ..] = words else {
+        return text.is_empty();
+    };
+    let word = first.as_bytes();
+    if text.len() < word.len() || text[..word.len()] != word[..] {
+        return false;
+    }
+    match &text[word.len()..] {
+        [] => others.is_empty(),
+        [byte, rest @ ..] => *byte == b' ' && !others.is_empty() && is_joined(rest, others),
+    }
 }
 
 /// Returns the words joined by one space. A single borrowed word is not copied.

@@ -63,10 +63,15 @@ impl Speech {
     }
 }
 
+// It has no early exit, so that a compiler can vectorize the loop.
 fn is_printable(text: &[u8]) -> bool
     ensures { result ≡ is_printable text.now }
 {
-    text.iter().all(|byte| SPACE <= *byte && *byte <= TILDE)
+    let mut printable = true;
+    for byte in text {
+        printable &= SPACE <= *byte && *byte <= TILDE;
+    }
+    printable
 }
 
 fn is_space(byte: Option<&u8>) -> bool

@@ -10,7 +10,7 @@ use Rattle.mud_server_state.specs.declared.limits.Limits.{Limits}
 use Rattle.mud_server_end.specs.declared.fault.ServerFault.{ServerFault}
 use Rattle.mud_server_end.specs.Server.{IsServerFault}
 use Rattle.mud_server.specs.MayBegin.{MayBegin}
-use Rattle.mud_server.specs.Volumes.{Volume, IsWhole, AreVolumes, Files, Finishes}
+use Rattle.mud_server.specs.Volumes.{Volume, IsWhole, AreVolumes, Files, Finishes, FinishesFirst}
 
 -- the journal of a volume that begins with these entries: its file keeps them, and no call has failed
 pub record IsReady (kept : Option Kept) (count : ℕ) (has_failed : Bool) (begun : List Entry) : Type 0 where
@@ -25,6 +25,12 @@ pub record MayTurn (limits : Limits) (begun next : List Entry) (old new : Files)
   pub whole : IsWhole limits volume
   pub begins : MayBegin volume.ended next
   pub finishes : Finishes (volume ∷ []) old new
+
+-- no volume was finished, or one that began with these entries and was whole at its end
+abbrev pub MayStop : Limits → List Entry → Files → Files → Type 0
+MayStop limits begun old new =
+    (new ≡ old)
+    ⊎ ((volume : Volume) × (volume.begun ≡ begun) × IsWhole limits volume × Finishes (volume ∷ []) old new)
 
 -- a server that began with these entries has finished some volumes, and the next one may begin with those
 pub record MayFollow (limits : Limits) (loaded next : List Entry) (old new : Files) : Type 0 where
@@ -53,11 +59,11 @@ pub record WritesLast (limits : Limits) (loaded : List Entry) (old new : Files) 
   pub written : Appends held now_held (history_text Two last.ended)
 
 -- nothing was written, or a prefix of the text of such a volume
-abbrev pub WritesLastInPart : Limits → List Entry → Option (List ℕ) → Option (List ℕ) → Type 0
-WritesLastInPart limits loaded held now_held =
-    Appends held now_held []
+abbrev pub WritesLastInPart : Limits → List Entry → Files → Files → Option (List ℕ) → Option (List ℕ) → Type 0
+WritesLastInPart limits loaded old new held now_held =
+    (FinishesFirst limits loaded old new × Appends held now_held [])
     ⊎ ((n : ℕ) × (earlier : List Volume) × (last : Volume) × AreVolumes limits loaded (last ∷ earlier)
-    × Appends held now_held (take n (history_text Two last.ended)))
+    × Finishes earlier old new × Appends held now_held (take n (history_text Two last.ended)))
 
 -- a fault after the loaded entries were taken: it is not `Load`, and `Write` means that this writer has failed
 abbrev pub IsLateFault : Writer → ServerFault → Type 0

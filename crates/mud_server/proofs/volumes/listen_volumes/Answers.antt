@@ -1,4 +1,4 @@
-use Rattle.std.proofs.Common.{List}
+use Rattle.std.proofs.Common.{List, inl, refl}
 use Rattle.std.specs.Option.{option_map}
 use Rattle.std.proofs.lemmas.Result.{err_from_is_err_and}
 use Rattle.mud_chron.specs.Entry.{Entry}
@@ -10,10 +10,10 @@ use Rattle.mud_server.proofs.Settled.{none_settled, front_settled, line_settled,
 use Rattle.mud_server.proofs.volumes.listen_volumes.Goals as goal
 
 pub returns-in_err-ports-clause-front : goal.returns-in_err-ports-clause-front
-returns-in_err-ports-clause-front g c = any_err c.from_residual.result (none_settled _ _ _ _)
+returns-in_err-ports-clause-front g c = any_err c.from_residual.result (none_settled _ _ _ _ _)
 
 pub returns-in_err-beginning-clause-front : goal.returns-in_err-beginning-clause-front
-returns-in_err-beginning-clause-front g c = any_err c.from_residual-in_err-beginning.result (none_settled _ _ _ _)
+returns-in_err-beginning-clause-front g c = any_err c.from_residual-in_err-beginning.result (none_settled _ _ _ _ _)
 
 pub returns-in_err-beginning-clause-fault : goal.returns-in_err-beginning-clause-fault
 returns-in_err-beginning-clause-fault g c =
@@ -25,13 +25,13 @@ pub returns-in_err-write_ports-clause-front : goal.returns-in_err-write_ports-cl
 returns-in_err-write_ports-clause-front g c =
     let front = c.in_err-write_ports.ensures.front in
     let lines = opened _ c.in_ok-ports.ports.telnet c.in_ok-ports.ports.web c.in_ok-ports.ensures.named in
-    any_err c.from_residual-in_err-write_ports.result (front_settled _ _ lines front.0 _ _ _ front.1)
+    any_err c.from_residual-in_err-write_ports.result (front_settled _ _ lines front.0 _ _ _ _ front.1)
 
 pub returns-in_err-company-clause-front : goal.returns-in_err-company-clause-front
 returns-in_err-company-clause-front g c =
     let lines = opened _ c.in_ok-ports.ports.telnet c.in_ok-ports.ports.web c.in_ok-ports.ensures.named in
     any_err c.from_residual-in_err-company.result
-    (line_settled _ _ lines _ _ _ c.in_ok-write_ports.ensures.ok)
+    (line_settled _ _ lines _ _ _ _ _ (inl refl) c.in_ok-write_ports.ensures.ok)
 
 pub returns-in_err-company-clause-fault : goal.returns-in_err-company-clause-fault
 returns-in_err-company-clause-fault g c =
@@ -54,5 +54,5 @@ returns-clause-ok g c =
 pub returns-clause-front : goal.returns-clause-front
 returns-clause-front g c =
     let lines = opened _ c.in_ok-ports.ports.telnet c.in_ok-ports.ports.web c.in_ok-ports.ensures.named in
-    any_settled c.serve_volumes.result _ _ lines _ _ _ _ _ c.in_ok-beginning.ensures.loaded
+    any_settled c.serve_volumes.result _ _ lines _ _ _ _ _ _ _ c.in_ok-beginning.ensures.loaded
     c.in_ok-write_ports.ensures.ok c.serve_volumes.ensures.front

@@ -1,8 +1,13 @@
 use Rattle.std.proofs.Common.{inr}
 use Rattle.std.specs.Option.{option_map}
 use Rattle.mud_shelf.specs.Volume.{durable}
-use Rattle.mud_server.proofs.Chained.{follows, closes}
+use Rattle.mud_server_end.proofs.Written.{any_err}
+use Rattle.mud_server.proofs.Chained.{follows, closes, stops}
 use Rattle.mud_server.proofs.volumes.serve_later.Goals as goal
+
+pub returns-in_err-ended-clause-stopped : goal.returns-in_err-ended-clause-stopped
+returns-in_err-ended-clause-stopped g c =
+    any_err c.from_residual.result (stops _ _ _ _ _ _ c.loop.invariant.followed c.in_err-ended.ensures.stopped)
 
 pub returns-in-Ends-clause-closes : goal.returns-in-Ends-clause-closes
 returns-in-Ends-clause-closes g c =

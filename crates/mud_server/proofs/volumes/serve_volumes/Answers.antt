@@ -4,9 +4,14 @@ use Rattle.std.proofs.lemmas.Result.{err_from_is_err_and}
 use Rattle.mud_shelf.specs.Volume.{durable}
 use Rattle.mud_journal.specs.Disk.{Holds}
 use Rattle.mud_server_end.proofs.Written.{any_err}
-use Rattle.mud_server.proofs.Chained.{closes, closes_later}
-use Rattle.mud_server.proofs.Settled.{wrote, wrote_part}
+use Rattle.mud_server.proofs.Chained.{closes, closes_later, stops, stops_later}
+use Rattle.mud_server.proofs.Settled.{wrote, wrote_part, wrote_nothing}
 use Rattle.mud_server.proofs.volumes.serve_volumes.Goals as goal
+
+pub returns-in_err-ended-clause-front : goal.returns-in_err-ended-clause-front
+returns-in_err-ended-clause-front g c =
+    any_err c.from_residual.result
+    (wrote_nothing _ _ _ _ _ (stops _ _ _ _ _ _ (inl (refl, refl)) c.in_err-ended.ensures.stopped))
 
 pub returns-in_err-ended-clause-fault : goal.returns-in_err-ended-clause-fault
 returns-in_err-ended-clause-fault g c =
@@ -19,6 +24,12 @@ returns-in_err-finish-in-Ends-clause-front g c =
     any_err c.from_residual-in_err-finish-in-Ends.result
     (wrote_part _ _ _ _ _ (g.D.Appends.kept c.in-Ends.ended.journal.disk) _ _
     (closes _ _ _ _ _ _ _ _ (inl (refl, refl)) served.0 served.1 served.2) c.in_err-finish-in-Ends.ensures.front)
+
+pub returns-in_err-ended-in-Turns-clause-front : goal.returns-in_err-ended-in-Turns-clause-front
+returns-in_err-ended-in-Turns-clause-front g c =
+    let served = rw c.in-Turns.is at c.in_ok-ended.ensures.served in
+    any_err c.from_residual-in_err-ended-in-Turns.result
+    (wrote_nothing _ _ _ _ _ (stops_later _ _ _ _ _ _ served.0 c.in_err-ended-in-Turns.ensures.stopped))
 
 pub returns-in_err-ended-in-Turns-clause-fault : goal.returns-in_err-ended-in-Turns-clause-fault
 returns-in_err-ended-in-Turns-clause-fault g c =

@@ -10,6 +10,7 @@ returns c =
       c.in_ok-write_refused-2.ensures,
       c.in_ok-write_refused.ensures,
       c.in_ok-write_about-2.ensures,
+      c.in_ok-write_metrics-3.ensures,
       c.in_ok-write_metrics-2.ensures,
       c.in_ok-write_metrics.ensures,
       c.in_ok-push_str-3.ensures.bytes,
@@ -17,7 +18,8 @@ returns c =
       c.in_ok-push_str.ensures.bytes,
       c.in_ok-write_about.ensures,
       c.new-text.ensures.bytes,
-      c.metrics_of.ensures,
+      c.server_metrics_of.ensures,
+      c.session_metrics_of.ensures,
       c.volume_metrics_of.ensures,
     )
     (simp append_assoc)

@@ -1,4 +1,4 @@
-use Rattle.std.proofs.Common.{◌≡◌, ◌<◌, ◌^◌, ◌++◌, ℕ, List, decimal, ap, ◌∙◌, subst, arith}
+use Rattle.std.proofs.Common.{◌≡◌, ◌<◌, ◌^◌, ◌++◌, ℕ, List, decimal, append_assoc, ap, ◌∙◌, subst, arith}
 use Rattle.std.specs.Prelude.{OnOk, codes}
 use Rattle.mud_session.specs.State.{SessionState}
 use Rattle.mud_session.specs.Session.{wire_text, with_version}
@@ -26,11 +26,13 @@ returns c =
     let with_out : List ℕ → SessionState =
     λ o. record { terminal = c.self.inside.terminal; has_ended = c.self.inside.has_ended; out = o } in
     let P : SessionState → Type 0 = λ s. OnOk c.send.result (c.send.new.self ≡ s) in
-    let digits : c.as_bytes.result.now ≡ decimal c.args.version = cc in
+    let out : List ℕ = c.push_number.new.out.items in
     subst P
-    (numbered was (with_out c.push.new.self.items) c.send_bytes.new.self c.send_bytes-2.new.self c.args.version
+    (numbered was (with_out c.push.new.self.items) (with_out out) (with_out c.push-3.new.self.items) c.args.version
     c.args.text.now (omega arith)
     (ap with_out (c.in_ok-push.ensures.items ∙ ap (λ (l : List ℕ). l ++ codes "[") c.in_ok-reserve.ensures.items)
     ∙ ap (λ (s : SessionState). sends s (codes "[")) c.self.view_is)
-    (c.in_ok-send_bytes.ensures ∙ ap (sends (with_out c.push.new.self.items)) digits) c.in_ok-send_bytes-2.ensures)
+    (ap with_out c.in_ok-push_number.ensures)
+    (ap with_out (c.in_ok-push-3.ensures.items ∙ ap (λ (l : List ℕ). l ++ codes " ") c.in_ok-push-2.ensures.items
+    ∙ append_assoc out (codes "]") (codes " "))))
     c.send.ensures

@@ -1,5 +1,5 @@
 use Rattle.std.proofs.Common.{refl}
-use Rattle.mud_status.proofs.metrics.metrics_of.Goals as goal
+use Rattle.mud_status.proofs.metrics.server_metrics_of.Goals as goal
 
 pub returns : goal.returns
 returns c =
@@ -11,13 +11,6 @@ returns c =
       c.gauge-5.ensures,
       c.gauge-6.ensures,
       c.gauge-7.ensures,
-      c.gauge-8.ensures,
-      c.gauge-9.ensures,
-      c.gauge-10.ensures,
-      c.counter.ensures,
-      c.counter-2.ensures,
-      c.counter-3.ensures,
-      c.counter-4.ensures,
       c.as_number-well.ensures,
     )
     refl

@@ -23,6 +23,9 @@ ROUND = (
     + b"\nroute #0 cost 0\nend\n"
 )
 STAY = b"mud proof 1\nversion 65536\nmember #1 from #0\nlabels #0:0\nwalk nothing\nroute #0 cost 0\nend\n"
+# Words of a line, so many that a call for each would take the whole stack.
+MANY = 3_000_000
+MANY_PARTS = b"verb [a] direct [%s] preposition - indirect [] rest [%s]\n" % ((b" ".join([b"a"] * (MANY - 1)),) * 2)
 
 
 def history(count, end):
@@ -35,6 +38,7 @@ ROWS = [
     ("a subnegotiation without an end", ["mud_explain", "units"], b"\xff\xfa" + b"A" * MILLION, b""),
     ("a line of too many characters", ["mud_explain", "units"], b"A" * MILLION + b"\nlook\n", b"too long\ntext look\n"),
     ("words", ["mud_explain", "words"], b"a " * MILLION, b" ".join([b"[a]"] * MILLION) + b"\n"),
+    ("the parts of a line of words", ["mud_explain", "parse"], b"a " * MANY, MANY_PARTS),
     ("a key of opening parentheses", ["mud_explain", "key"], b"(" * MILLION, b"bad key at %d\n" % MILLION),
     ("a key in parentheses", ["mud_explain", "key"], b"(" * MILLION + b"#1" + b")" * MILLION, b"#1\n"),
     ("a key of a million objects", ["mud_explain", "key"], b"a||" * MILLION + b"a", b"too many objects\n"),

@@ -81,13 +81,18 @@ class Place:
         self.folder.cleanup()
 
 
+def refused(path, words=(), environment=None, seconds=SECONDS):
+    """Runs a server over a journal that it refuses. Returns its status, its output, and its message."""
+    command = [program("mud_serve"), "listen", "--port", "0", "--address", HOST, "--journal", path, *words]
+    ran = subprocess.run(command, stdin=subprocess.DEVNULL, capture_output=True, timeout=seconds, check=False,
+                         env={**os.environ, **(environment or {})})
+    return ran.returncode, ran.stdout, LOGGED.sub(b"", ran.stderr)
+
+
 def why_taken(text, words, why):
     """Returns what went wrong if a server should refuse its journal, or nothing if it does."""
     with Place(text) as place:
-        words = [word.format(whole=place.whole) for word in words]
-        command = [program("mud_serve"), "listen", "--port", "0", "--address", HOST, "--journal", place.path, *words]
-        ran = subprocess.run(command, stdin=subprocess.DEVNULL, capture_output=True, timeout=SECONDS, check=False)
-        given = ran.returncode, ran.stdout, LOGGED.sub(b"", ran.stderr)
+        given = refused(place.path, [word.format(whole=place.whole) for word in words])
         if given != (3, b"", b"mud_serve: " + why + b"\n"):
             return f"{given}"
         return "" if place.text() == text else "the file is another one now"

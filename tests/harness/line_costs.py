@@ -81,6 +81,11 @@ def ring_routes():
 SAY = Line("say hello there everybody", [], ["say hello there everybody"])
 GO = Line("go X, there and back", ['@dig there|back to "Another room"'], ["go there", "go back"])
 RING = Line("route in a ring with chords", ring(), ring_routes(), fewer=5, more=20)
+# These routes, each after a line that opens and closes nothing for the player, or all after a recycling.
+AFTER_TALK = RING._replace(what="route after talk", asked=[f"say hi\n{line}" for line in RING.asked])
+AFTER_RECYCLING = RING._replace(what="route after a recycling", world=[*RING.world, "@create axe", "@recycle axe"])
+# How many times the usual cost such a route may take.
+TIMES_USUAL = 1.1
 # A line, its greatest number of instructions, and the beginning of its answer.
 BOUNDS = [
     (SAY, 4_600, "said"),
@@ -98,9 +103,17 @@ def why_dear(line, bound, right):
     return f"{cost:,.0f} instructions, and the bound is {bound:,}" if cost > SLACK * bound else ""
 
 
+def why_dearer(line, usual):
+    """Returns why a line costs more than it may beside the usual line, or nothing."""
+    cost, least = (cost_of([program("mud_serve"), "script"], it)[0] for it in (line, usual))
+    return f"{cost:,.0f} instructions, and usually {least:,.0f}" if cost > TIMES_USUAL * least else ""
+
+
 @part("line-costs", "what is said, a walk and a route take no more instructions than they did", wants_proof=True)
 def line_costs(count):
     if needs_valgrind():
         raise Skipped("valgrind is not there")
     for line, bound, right in BOUNDS:
         count.tries(f"line costs: {line.what}", why_dear, line, bound, right)
+    for line in (AFTER_TALK, AFTER_RECYCLING):
+        count.tries(f"line costs: {line.what}", why_dearer, line, RING)

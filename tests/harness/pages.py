@@ -232,12 +232,9 @@ def count_together(count, page):
 
 def faults_of_edit(kind, crate, name):
     """Returns what is wrong if a wrong body is said to be tried in the gate, or on demand."""
-    by_kit, by_function = f"crates/{crate}/must-fail/{name}.edit", f"tests/wrong-bodies/{crate}/{name}.edit"
-    if kind == "gate" and os.path.exists(f"{TOP}/{by_kit}"):
-        return []
-    faults = missing_of(by_function, [])
-    tried = "tried: in the gate" if kind == "gate" else f"tried: {kind}"
-    return faults or ([] if tried in text_of(by_function).split("\n") else [f"{by_function}: {tried}"])
+    path, tried = f"tests/wrong-bodies/{crate}/{name}.edit", "in the gate" if kind == "gate" else kind
+    faults = missing_of(path, [])
+    return faults or ([] if f"tried: {tried}" in text_of(path).split("\n") else [f"{path}: {tried}"])
 
 
 def count_wrong_bodies(count, page):
@@ -255,8 +252,7 @@ def is_known(span, known):
     """Returns whether a name between backquotes exists: a part of tests/run, a wrong body, or a name of the crates.
     Anything else by its form is not checked."""
     if HYPHENED.fullmatch(span):
-        edits = (f"{TOP}/{folder}/{span}.edit" for folder in ("crates/*/must-fail", "tests/wrong-bodies/*"))
-        return span in PARTS or any(map(glob.glob, edits))
+        return span in PARTS or bool(glob.glob(f"{TOP}/tests/wrong-bodies/*/{span}.edit"))
     return not NAME.fullmatch(span) or span in PARTS or known.issuperset(WORD.findall(span))
 
 
@@ -343,8 +339,7 @@ def count_figures(count):
     rate = f"{proofs / code:.1f} to 1"
     count("README.md: proofs", near == [True, True] and rate in readme, f"{proofs} lines for {code} of code, {rate}")
     edits = [text_of(path) for path in files(["tests/wrong-bodies/*/*.edit"])]
-    by_kit = len(files(["crates/*/must-fail/*"]))
-    planted = [len(edits) + by_kit, sum("tried: in the gate" in text for text in edits) + by_kit]
+    planted = [len(edits), sum("tried: in the gate" in text for text in edits)]
     count("README.md: wrong bodies", said["planted mistakes"] == planted, f"there are {planted}")
 
 

@@ -17,13 +17,12 @@ from concurrent.futures import ThreadPoolExecutor
 from harness.crash import entries_of, stands
 from harness.guests import is_soon
 from harness.inputs import read
-from harness.journal import Place, ended
+from harness.journal import Place, ended, refused
 from harness.keep import kept
 from harness.parts import part
 from harness.preload import library
 from harness.recipes import blocks
-from harness.programs import program
-from harness.server import HOST, LOGGED, Client
+from harness.server import Client
 from harness.web import WebServer
 
 VOLUME = re.compile(rb"\(volume (\d+)\)")
@@ -526,14 +525,6 @@ def why_called_off():
 # ---- a second server
 
 
-def refused(shelf, environment=None):
-    """Runs another server over the same journal. Returns its status, its output, and its message."""
-    command = [program("mud_serve"), "listen", "--port", "0", "--address", HOST, "--journal", shelf.path]
-    ran = subprocess.run(command, stdin=subprocess.DEVNULL, capture_output=True, timeout=SECONDS, check=False,
-                         env={**os.environ, **(environment or {})})
-    return ran.returncode, ran.stdout, LOGGED.sub(b"", ran.stderr)
-
-
 def why_second_server():
     """Another server over the same journal is refused while one runs, also if it finds a volume before a turn, and gets
     its lock after it."""
@@ -543,11 +534,11 @@ def why_second_server():
         now, waits = f"{folder}/now", f"{folder}/waits"
         late = {"LD_PRELOAD": library("late_lock"), "LOCK_AFTER": now, "LOCK_WAITS": waits}
         with shelf.server(console=True) as server, ThreadPoolExecutor() as threads:
-            other = threads.submit(refused, shelf, late)
+            other = threads.submit(refused, shelf.path, environment=late, seconds=SECONDS)
             if not is_soon(lambda: os.path.exists(waits), seconds=SECONDS):
                 return "the other one locks nothing"
             line, _ = played(server, told, 1)
-            at_once = refused(shelf)
+            at_once = refused(shelf.path)
             with open(now, "wb"):
                 later = other.result()
             server.type(b"stop\n")

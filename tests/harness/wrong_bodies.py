@@ -1,7 +1,7 @@
-"""Wrong bodies that the prover must refuse: tests/wrong-bodies/CRATE. They have the form of those in a crate's
-must-fail/, which `rt ci` tries over the whole crate, and two lines more. `function: ` names the function that must lose
-its proof, by its name as the prover prints it, or the end of that. A try checks only that function and the functions of
-its crate that it calls, so it costs a fraction. `tried: ` says when to try it: `in the gate`, or `on demand`."""
+"""Wrong bodies that the prover must refuse: tests/wrong-bodies/CRATE. A line `function: ` names the function that must
+lose its proof, by its name as the prover prints it, or the end of that. A try checks only that function and the
+functions of its crate that it calls, so it costs a fraction of the crate. `tried: ` says when to try it: `in the gate`,
+or `on demand`. Each change has a line `file: `, and the old and the new text."""
 import functools
 import glob
 import itertools
@@ -100,8 +100,7 @@ def promises(crate):
 def is_tried(crate):
     """Returns whether the gate plants a wrong body of the crate. The crate of the tests needs none, since no crate
     calls it."""
-    by_kit = glob.glob(f"{TOP}/crates/{crate}/must-fail/*.edit")
-    return crate == "mud_tests" or bool(by_kit) or crate in {edit.crate() for edit in in_gate()}
+    return crate == "mud_tests" or crate in {edit.crate() for edit in in_gate()}
 
 
 def in_gate():
@@ -148,8 +147,8 @@ def right(edit):
 
 def count_refusals(count, chosen):
     """Counts a test for each edit, and one for the first edit's function as it stands, which the same words must
-    prove."""
-    groups = [list(group) for _, group in itertools.groupby(chosen, Edit.crate)]
+    prove. The crates with the most edits begin, so that none of them is tried alone at the end."""
+    groups = sorted((list(group) for _, group in itertools.groupby(chosen, Edit.crate)), key=len, reverse=True)
     with ThreadPoolExecutor(run().lanes()) as threads:
         as_it_stands = threads.submit(right, chosen[0])
         for edit, said in itertools.chain.from_iterable(threads.map(planted, groups)):

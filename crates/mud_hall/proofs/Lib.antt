@@ -18,4 +18,5 @@ pub mod Journeys
 pub mod Guiding
 pub mod Sample
 pub mod Coming
+pub mod Talk
 mod Sitting

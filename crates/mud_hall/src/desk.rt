@@ -12,6 +12,7 @@ ghost use Rattle.mud_hall.specs.inner.Desks.{notice_in};
 ghost use Rattle.mud_hall.specs.Desk.{View, TakesIn, Learns, IsNew, as_guest, pending, with_told};
 
 use crate::name::HallName;
+use crate::travel::is_talk;
 use mud_chron::Entry;
 use mud_roads::Traveller;
 use mud_row::{Replica, Row};
@@ -129,7 +130,9 @@ impl<J: HallName> Desk<J> {
         let version = replica.at() + 1;
         let line = line_told(alloc, self.player, version, replica.world(), entry)?;
         self.told.reserve(1)?;
-        self.traveller = None;
+        if !is_talk(entry.change()) {
+            self.traveller = None;
+        }
         replica.step(row)?;
         push_line(&mut self.told, line);
         Ok(true)

@@ -267,8 +267,8 @@ impl<J: HallName> Hall<J> {
         }
     }
 
-    /// Seats a player at the desk: as a guest's it acts on `connect` with the player's first name. Without a player it
-    /// stays a guest's. Returns whether the desk has this player now, or none was given; if not, it is a guest's.
+    /// Makes the desk a guest's, and then the player's if one is given: it acts on `connect` with the player's first
+    /// name. Returns false if a player was given and the desk is still a guest's.
     pub fn sit<R: Wait>(&self, rt: &R, desk: &mut Desk<J>, player: Option<u32>) -> bool
         ensures { IsSeated (length J.cells) player result desk.old.state desk.new.state }
     {

@@ -27,6 +27,7 @@ use crate::fault::{Fault, ResumeFault};
 use crate::guide::{Through, by_workers};
 use crate::reply::Reply;
 use crate::texts::history_answer;
+use crate::travel::is_talk;
 use mud_chron::{ChronFault, Entry, replay};
 use mud_guide::{Answer, Workers};
 use mud_roads::Traveller;
@@ -172,7 +173,8 @@ impl Solo {
         }
     }
 
-    // Decides a line.
+    // Decides a line. It is inlined, because moving a verdict is expensive.
+    #[inline(always)]
     fn verdict(&self, said: &Parsed) -> Result<Verdict, AllocError>
         ensures decision { IfOk result (λ v. v
             ≡ verdict_on self.now.state.seen self.now.state.player (line_of said.now)) }
@@ -201,6 +203,7 @@ impl Solo {
     }
 
     // Makes a change, and stores it.
+    #[inline(always)]
     fn store(&mut self, change: Change) -> Result<Reply, Fault>
         requires { IsLawful (world_after self.old.state.seen) self.old.state.player (Verdict.Change change) }
         ensures capacity { self.new.capacity ≡ self.old.capacity }
@@ -228,6 +231,7 @@ impl Solo {
     }
 
     // Makes a change, and stores it as the next entry.
+    #[inline(always)]
     fn keep(&mut self, change: Change) -> Result<(), AllocError>
         requires room { length self.old.state.seen < self.old.capacity }
         requires lawful { IsLawful (world_after self.old.state.seen) self.old.state.player (Verdict.Change change) }
@@ -235,8 +239,10 @@ impl Solo {
         ensures ok { OnOk result (self.new.state ≡ as_accepted self.old.state change) }
         ensures err { OnErr result (self.new.state ≡ self.old.state) }
     {
-        self.traveller = None;
         apply(&mut self.history, &mut self.world, &change)?;
+        if !is_talk(&change) {
+            self.traveller = None;
+        }
         self.player = change.actor;
         self.history.push_reserved(Entry::new(1, change));
         Ok(())

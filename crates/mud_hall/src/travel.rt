@@ -1,12 +1,13 @@
 //! Travellers, computed once for each world and player.
 
 ghost use Rattle.std.specs.Prelude.{◌≡◌, Some, IfSome, IsTrue};
-ghost use Rattle.mud_world.specs.State.{is_player};
+ghost use Rattle.mud_world.specs.State.{State, is_player};
+ghost use Rattle.mud_world.specs.Legal.{after};
 ghost use Rattle.mud_roads.specs.Passable.{IsTraveller};
 
 use mud_roads::Traveller;
 use mud_rules::{Journey, Query, Verdict};
-use mud_world::World;
+use mud_world::{Change, Deed, World};
 use std::alloc::{AllocError, Global};
 
 /// Computes the traveller of the player who asks for a route, unless it is known. If an allocation fails, the known one
@@ -39,6 +40,13 @@ pub(crate) fn traveller_of(traveller: &Option<Traveller>, player: u32) -> Option
         Some(traveller) if traveller.player() == player => Some(traveller),
         _ => None,
     }
+}
+
+/// Returns whether a change leaves the world as it is, and so everything that is open to its players.
+pub(crate) fn is_talk(change: &Change) -> bool
+    ensures { IsTrue result → (w : State) → after w change.now ≡ w }
+{
+    matches!(&change.deed, Deed::Say(_) | Deed::Emote(_))
 }
 
 // Returns whether a line asks for a route, or for the proof of one.

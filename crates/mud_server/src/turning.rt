@@ -5,6 +5,7 @@ use crate::proposal::{Proposal, copies};
 use log::{Log, warn};
 use mud_chron::Entry;
 use mud_compact::shorten;
+use mud_control::Tally;
 use mud_hall::HallName;
 use mud_server_threads::{Server, StateOf};
 use std::alloc::{AllocError, Global};
@@ -145,7 +146,15 @@ impl Turning {
                 let taken = plan.drop_found(fill.capacity);
                 server.state.hold_from(plan.held_from(fill.capacity));
                 drop(plan);
-                self.tell_large(server, taken, fill.is_requested);
+                let (tally, most) = (&control.tally, fill.capacity);
+                tell_large(
+                    server.rt,
+                    tally,
+                    self.volume,
+                    taken,
+                    most,
+                    fill.is_requested,
+                );
             }
         }
         false
@@ -187,27 +196,6 @@ impl Turning {
         }
     }
 
-    // Records that the world takes most of a volume by itself. The log says so once until the next turn, and at a
-    // request of the host that there is no turn.
-    fn tell_large<'s, E, J, R>(
-        &self,
-        server: &Server<'s, E, J, R>,
-        taken: usize,
-        is_requested: bool,
-    )
-    where
-        J: HallName + Send + Sync + 's,
-        R: Threads + Wait + Log + Clock + Sync + 's,
-    {
-        let (volume, most) = (self.volume, server.state.limits.capacity);
-        if !server.state.control.tally.note_large_world(taken as u64) {
-            warn!(server.rt; "large-world volume={volume} takes={taken} most={most}");
-        }
-        if is_requested {
-            warn!(server.rt; "no-turn volume={volume} why=\"the world takes most of a volume\"");
-        }
-    }
-
     // Searches for a shorter history of the present world.
     fn search<'s, E, J, R>(&self, server: &Server<'s, E, J, R>)
     where
@@ -246,5 +234,23 @@ fn propose(alloc: Global, entries: &[Entry]) -> Option<Proposal> {
             entries: shorter,
         }),
         Err(_) => None,
+    }
+}
+
+/// Records that the world of a volume takes this many changes by itself, most of the volume. The log says so once until
+/// the next turn, and, if a turn was due, that there is no turn.
+pub(crate) fn tell_large<R: Log>(
+    rt: &R,
+    tally: &Tally,
+    volume: u32,
+    taken: usize,
+    most: usize,
+    is_due: bool,
+) {
+    if !tally.note_large_world(taken as u64) {
+        warn!(rt; "large-world volume={volume} takes={taken} most={most}");
+    }
+    if is_due {
+        warn!(rt; "no-turn volume={volume} why=\"the world takes most of a volume\"");
     }
 }

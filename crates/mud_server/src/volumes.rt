@@ -25,7 +25,7 @@ use crate::census::count_objects;
 use crate::listen::{Served, is_well_ended, ports_of, resume_hall};
 use crate::marks::retry_step;
 use crate::proposal::{Proposal, copies};
-use crate::turning::Turning;
+use crate::turning::{Turning, tell_large};
 use crate::volume::{Beginning, Company, Ended, Terms, part_all, serve_volume};
 use log::{Log, warn};
 use mud_chron::Entry;
@@ -166,15 +166,6 @@ fn begin_again<D: Disk + Drop>(
     })
 }
 
-// Logs and records that a world takes most of a volume by itself, and that there is no turn.
-fn tell_large<R: Log>(rt: &R, terms: Terms<'_>, volume: u32, taken: usize) {
-    let most = terms.limits.capacity;
-    if !terms.control.tally.note_large_world(taken as u64) {
-        warn!(rt; "large-world volume={volume} takes={taken} most={most}");
-    }
-    warn!(rt; "no-turn volume={volume} why=\"the world takes most of a volume\"");
-}
-
 // Makes the volume after one that came to rest.
 fn next_of<S: Shelf, D: Disk + Drop, R: Log>(
     rt: &R,
@@ -257,7 +248,8 @@ fn turn_from<S: Shelf, D: Disk + Drop, R: Wait + Log>(
         }
         Err(why) => {
             if let NoNext::Large(taken) = why {
-                tell_large(rt, terms, volume, taken);
+                let (tally, most) = (&terms.control.tally, capacity as usize);
+                tell_large(rt, tally, volume, taken, most, true);
             }
             let beginning = begin_again(alloc, capacity, rested, why)?;
             Ok(Turned::Same(Going { company, beginning }))

@@ -2,9 +2,8 @@
 use Rattle.std.proofs.Common.{◌≡◌, ℕ, List, [], ◌∷◌, ◌++◌, map, take, drop, Option, Some, None, option_map, refl, ap}
 use Rattle.std.proofs.Common.{◌∙◌, ◌<◌, ◌≤◌, length, get_or, take_all, arith}
 use Rattle.std.specs.List.{join_by, flat_map}
-use Rattle.std.proofs.Common.{Bool, true, false, not, eqb, zero, suc, sym}
-use Rattle.std.proofs.lemmas.Bool.{true≢false}
-use Rattle.std.proofs.lemmas.List.{append-nil, take-map, drop-map, take-append-drop, drop_more, nil_from_length}
+use Rattle.std.proofs.Common.{Bool, true, false, not}
+use Rattle.std.proofs.lemmas.List.{append-nil, take-map, drop-map}
 use Rattle.mud_words.specs.declared.codes.TheConstants.{SPACE}
 use Rattle.mud_words.specs.declared.prepositions.Spot.{Spot}
 use Rattle.mud_words.specs.Prepositions.{Found, preposition_of}
@@ -28,41 +27,10 @@ joined_from f (y ∷ ys) x n text some first all is =
     ∙ ap (λ zs. f y ++ flat_map (λ y. SPACE ∷ f y) zs) (take_all n ys all)
     ∙ joined_by f (y ∷ ys)
 
--- a text that is its first word alone
-pub joined_alone : {X : Type 0} (f : X → List ℕ) (xs : List X) (x : X) (word text : List ℕ) → 0 < length xs
-    → x ≡ get_or xs 0 x → word ≡ f x → length (drop 1 xs) ≡ 0 → take (length word) text ≡ word
-    → length (drop (length word) text) ≡ 0 → text ≡ join_words (map f xs)
-joined_alone f [] x word text some first is alone front rest = absurd (omega arith)
-joined_alone f (y ∷ z ∷ xs) x word text some first is alone front rest = absurd (omega arith)
-joined_alone f (y ∷ []) x word text some first is alone front rest =
-    sym (take-append-drop (length word) text)
-    ∙ ap (λ (l : List ℕ). take (length word) text ++ l) (nil_from_length (drop (length word) text) rest)
-    ∙ append-nil (take (length word) text) ∙ front ∙ is ∙ ap f first
-
--- a text that is its first word, a space, and the other words
-pub joined_more : {X : Type 0} (f : X → List ℕ) (xs : List X) (x : X) (word text : List ℕ) → 0 < length xs
-    → x ≡ get_or xs 0 x → word ≡ f x → 0 < length (drop 1 xs) → take (length word) text ≡ word
-    → 0 < length (drop (length word) text) → get_or (drop (length word) text) 0 0 ≡ SPACE
-    → drop 1 (drop (length word) text) ≡ join_words (map f (drop 1 xs)) → text ≡ join_words (map f xs)
-joined_more f [] x word text some first is others front rest space same = absurd (omega arith)
-joined_more f (y ∷ []) x word text some first is others front rest space same = absurd (omega arith)
-joined_more f (y ∷ z ∷ xs) x word text some first is others front rest space same =
-    let behind = drop (length word) text in
-    sym (take-append-drop (length word) text)
-    ∙ ap (λ (l : List ℕ). l ++ behind) (front ∙ is ∙ ap f first)
-    ∙ ap (λ (l : List ℕ). f y ++ l)
-    (drop_more behind 0 0 rest ∙ ap (λ b. b ∷ drop 1 behind) space ∙ ap (λ (l : List ℕ). SPACE ∷ l) same)
-
 -- a test whose answer was no
 pub not_false : (b : Bool) → false ≡ not b → b ≡ true
 not_false true e = refl
 not_false false e = e
-
--- not empty
-pub not_none : (v r : Bool) (n : ℕ) → v ≡ not r → r ≡ eqb n 0 → v ≡ true → 0 < n
-not_none v true n is none holds = absurd (true≢false (sym holds ∙ is))
-not_none v false zero is none holds = absurd (true≢false (sym none))
-not_none v false (suc n) is none holds = omega arith
 
 round_is : {X : Type 0} (f : X → List ℕ) (verb rest direct indirect : List ℕ) (xs : List X) (spot : Spot)
     (o : Option Found) → Some spot ≡ option_map spot_of o → direct ≡ join_words (map f (take spot.start xs))

@@ -1,4 +1,4 @@
-ghost use Rattle.std.specs.Prelude.{◌≡◌, ℕ, List, [], ◌∷◌, IsFalse, IsTrue, map, string_bytes, IfOk};
+ghost use Rattle.std.specs.Prelude.{◌≡◌, ℕ, List, [], ◌∷◌, ◌++◌, IsFalse, IsTrue, map, string_bytes, IfOk, IfSome};
 ghost use Rattle.std.specs.Cow.{cow_str_bytes};
 ghost use Rattle.mud_words.specs.Words.{plain_words, without_front, without_back};
 ghost use Rattle.std.specs.Str.{str_to_ascii_lowercase as lower};
@@ -143,14 +143,29 @@ fn is_joined(text: &[u8], words: &[CowStr<'_, Global>]) -> bool
     let [first, others @ ..] = words else {
         return text.is_empty();
     };
-    let word = first.as_bytes();
-    if text.len() < word.len() || text[..word.len()] != word[..] {
+    let Some(mut rest) = behind(text, first.as_bytes()) else {
         return false;
+    };
+    for word in others {
+        let [b' ', more @ ..] = rest else {
+            return false;
+        };
+        let Some(next) = behind(more, word.as_bytes()) else {
+            return false;
+        };
+        rest = next;
     }
-    match &text[word.len()..] {
-        [] => others.is_empty(),
-        [byte, rest @ ..] => *byte == b' ' && !others.is_empty() && is_joined(rest, others),
+    rest.is_empty()
+}
+
+// Returns the text behind a word, if it begins with the word.
+fn behind<'t>(text: &'t [u8], word: &[u8]) -> Option<&'t [u8]>
+    ensures { IfSome result (λ rest. text.now ≡ word.now ++ rest.now) }
+{
+    if text.len() < word.len() || text[..word.len()] != word[..] {
+        return None;
     }
+    Some(&text[word.len()..])
 }
 
 /// Returns the words joined by one space. A single borrowed word is not copied.

@@ -170,6 +170,7 @@ impl World {
         ensures { self.new ≡ after self.old (record { actor = actor; deed = Deed.Recycle object }) }
     {
         forget(&mut self.records, &mut self.links, &mut self.askers, object);
+        self.indices.note(&self.records, self.next);
     }
 
     /// Applies a legal change (`after`). The only error is out of memory, and it leaves the world unchanged. New

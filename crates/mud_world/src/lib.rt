@@ -34,6 +34,7 @@ mod askers;
 mod change;
 mod dig;
 mod holding;
+mod indices;
 mod judged;
 pub mod laws;
 mod legal;

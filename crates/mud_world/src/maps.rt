@@ -21,16 +21,26 @@ use mud_index::{Lists, Owners};
 use mud_key::{Key, Names};
 use std::alloc::{AllocError, Global};
 
-// Returns the record of a number. Until something is recycled, its index equals its number. Every access to an object
-// goes through this function.
+// Returns the record of a number, which is probably at this index. If it isn't, it is found by hash.
 #[inline(always)]
-pub(crate) fn record_of(records: &IndexMap<u32, Record>, number: u32) -> Option<&Record>
+pub(crate) fn record_at(
+    records: &IndexMap<u32, Record>,
+    index: usize,
+    number: u32,
+) -> Option<&Record>
     ensures { option_copied result ≡ lookup (nat_eq number) records.now.entries }
 {
-    match records.get_index(number as usize) {
+    match records.get_index(index) {
         Some((at, record)) if *at == number => Some(record),
         _ => records.get(&number),
     }
+}
+
+// Returns the record of a number. Until something is recycled, its index equals its number.
+pub(crate) fn record_of(records: &IndexMap<u32, Record>, number: u32) -> Option<&Record>
+    ensures { option_copied result ≡ lookup (nat_eq number) records.now.entries }
+{
+    record_at(records, number as usize, number)
 }
 
 fn put_record(

@@ -5,8 +5,9 @@ ghost use Rattle.mud_world.specs.State.{named_player, is_player, State, record_a
 ghost use Rattle.mud_world.specs.State.{contents_of, leaving_of, arriving_of};
 ghost use Rattle.mud_world.specs.Sound.{IsSound};
 
+use crate::indices::Indices;
 use crate::links::Links;
-use crate::maps::{copy_records, grow, record_of};
+use crate::maps::{copy_records, grow, record_at};
 use crate::{Kind, Record};
 use indexmap::IndexMap;
 use mud_index::{Lists, Owners};
@@ -50,6 +51,7 @@ pub struct World {
     pub(crate) links: Links,
     pub(crate) askers: Lists,
     pub(crate) owners: Owners,
+    pub(crate) indices: Indices,
     pub(crate) next: u32,
 }
 
@@ -62,12 +64,14 @@ impl Drop for World {
             links,
             askers,
             owners,
+            indices,
             next: _,
         } = self;
         drop(records);
         drop(links);
         drop(askers);
         drop(owners);
+        drop(indices);
     }
 }
 
@@ -120,6 +124,7 @@ impl World {
             links,
             askers: Lists::new(alloc),
             owners,
+            indices: Indices::new(alloc),
             next: 2,
         })
     }
@@ -129,7 +134,7 @@ impl World {
     pub fn get(&self, number: u32) -> Option<&Record>
         ensures { option_copied result ≡ record_at self.now number }
     {
-        record_of(&self.records, number)
+        record_at(&self.records, self.indices.of(number), number)
     }
 
     /// Returns the number of the next new object, 2 to 8,192. At 8,192 the world is full.
@@ -201,12 +206,14 @@ impl World {
         let links = self.links.copy()?;
         let askers = self.askers.copy()?;
         let owners = self.owners.copy()?;
+        let indices = self.indices.copy()?;
         Ok(World {
             alloc: self.alloc,
             records,
             links,
             askers,
             owners,
+            indices,
             next: self.next,
         })
     }

@@ -83,6 +83,7 @@ GO = Line("go X, there and back", ['@dig there|back to "Another room"'], ["go th
 RING = Line("route in a ring with chords", ring(), ring_routes(), fewer=5, more=20)
 # These routes, each after a line that opens and closes nothing for the player, or all after a recycling.
 AFTER_TALK = RING._replace(what="route after talk", asked=[f"say hi\n{line}" for line in RING.asked])
+AFTER_WALK = RING._replace(what="route after a walk", asked=[f"go next\n{line}" for line in RING.asked])
 AFTER_RECYCLING = RING._replace(what="route after a recycling", world=[*RING.world, "@create axe", "@recycle axe"])
 # How many times the usual cost such a route may take.
 TIMES_USUAL = 1.1
@@ -104,8 +105,12 @@ def why_dear(line, bound, right):
 
 
 def why_dearer(line, usual):
-    """Returns why a line costs more than it may beside the usual line, or nothing."""
-    cost, least = (cost_of([program("mud_serve"), "script"], it)[0] for it in (line, usual))
+    """Returns why the routes of a line are not all answered, or cost more than they may beside the usual ones, or
+    nothing."""
+    (cost, told), (least, _) = (cost_of([program("mud_serve"), "script"], it) for it in (line, usual))
+    answered = sum(answer.partition(" ")[2].startswith("route #") for answer in told.decode().splitlines())
+    if answered != line.fewer + line.more:
+        return f"{answered} routes"
     return f"{cost:,.0f} instructions, and usually {least:,.0f}" if cost > TIMES_USUAL * least else ""
 
 
@@ -115,5 +120,5 @@ def line_costs(count):
         raise Skipped("valgrind is not there")
     for line, bound, right in BOUNDS:
         count.tries(f"line costs: {line.what}", why_dear, line, bound, right)
-    for line in (AFTER_TALK, AFTER_RECYCLING):
+    for line in (AFTER_TALK, AFTER_WALK, AFTER_RECYCLING):
         count.tries(f"line costs: {line.what}", why_dearer, line, RING)

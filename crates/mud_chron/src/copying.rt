@@ -6,31 +6,31 @@ use mud_key::Names;
 use mud_world::{Change, Deed, Doors, Target};
 use std::alloc::{AllocError, Global};
 
-fn copy_target(alloc: Global, target: &Target) -> Result<Target, AllocError>
+fn copy_target(target: &Target) -> Result<Target, AllocError>
     ensures { IfOk result (λ t. t ≡ target.now) }
 {
     match target {
-        Target::New(names) => Ok(Target::New(names.copy(alloc)?)),
+        Target::New(names) => Ok(Target::New(names.copy()?)),
         Target::Old(room) => Ok(Target::Old(*room)),
     }
 }
 
-fn copy_back(alloc: Global, back: &Option<Names>) -> Result<Option<Names>, AllocError>
+fn copy_back(back: &Option<Names>) -> Result<Option<Names>, AllocError>
     ensures { IfOk result (λ b. b ≡ back.now) }
 {
     match back {
-        Some(names) => Ok(Some(names.copy(alloc)?)),
+        Some(names) => Ok(Some(names.copy()?)),
         None => Ok(None),
     }
 }
 
-fn copy_doors(alloc: Global, doors: &Option<Doors>) -> Result<Option<Doors>, AllocError>
+fn copy_doors(doors: &Option<Doors>) -> Result<Option<Doors>, AllocError>
     ensures { IfOk result (λ d. d ≡ doors.now) }
 {
     match doors {
         Some(doors) => Ok(Some(Doors {
-            out: doors.out.copy(alloc)?,
-            back: copy_back(alloc, &doors.back)?,
+            out: doors.out.copy()?,
+            back: copy_back(&doors.back)?,
         })),
         None => Ok(None),
     }
@@ -40,15 +40,12 @@ fn copy_deed(alloc: Global, deed: &Deed) -> Result<Deed, AllocError>
     ensures { IfOk result (λ d. d ≡ deed.now) }
 {
     Ok(match deed {
-        Deed::Dig(target, doors) => Deed::Dig(
-            copy_target(alloc, target)?,
-            copy_doors(alloc, doors)?,
-        ),
-        Deed::Make(names) => Deed::Make(names.copy(alloc)?),
+        Deed::Dig(target, doors) => Deed::Dig(copy_target(target)?, copy_doors(doors)?),
+        Deed::Make(names) => Deed::Make(names.copy()?),
         Deed::Player(name) => Deed::Player(name.copy(alloc)?),
         Deed::Lock { object, key } => Deed::Lock {
             object: *object,
-            key: key.copy(alloc)?,
+            key: key.copy()?,
         },
         Deed::Unlock { object } => Deed::Unlock { object: *object },
         Deed::Move { thing, to } => Deed::Move {
@@ -62,7 +59,7 @@ fn copy_deed(alloc: Global, deed: &Deed) -> Result<Deed, AllocError>
         },
         Deed::Rename { object, names } => Deed::Rename {
             object: *object,
-            names: names.copy(alloc)?,
+            names: names.copy()?,
         },
         Deed::Recycle { object } => Deed::Recycle { object: *object },
         Deed::Say(text) => Deed::Say(text.copy(alloc)?),

@@ -9,7 +9,7 @@ use Rattle.mud_world.specs.State.{State}
 use Rattle.mud_world.specs.Opening.{opening_state}
 use Rattle.mud_world.specs.Legal.{refusal, after, deed_result}
 use Rattle.mud_world.specs.History.{world_from}
-use Rattle.mud_world.specs.inner.Fields.{step_or_same}
+use Rattle.mud_world.specs.History.{step_or_same}
 use Rattle.mud_world.specs.declared.change.Change.{Change}
 use Rattle.mud_world.specs.declared.change.Deed.{Deed}
 use Rattle.mud_world.specs.declared.change.Deed.TheVariants.{Dig, Make, Lock, Unlock, Move, Walk, Cost, Player, Rename}

@@ -90,8 +90,8 @@ impl<'a> Spelling<'a> {
     // Returns the object's final names.
     fn names(&self, number: u32) -> Result<Names, AllocError> {
         match self.goal.get(number) {
-            Some(record) => record.names.copy(self.alloc),
-            None => self.spare.copy(self.alloc),
+            Some(record) => record.names.copy(),
+            None => self.spare.copy(),
         }
     }
 
@@ -176,7 +176,7 @@ impl<'a> Spelling<'a> {
     }
 
     fn rename(&mut self, object: u32, record: &Record) -> Result<(), Unbuilt> {
-        let names = record.names.copy(self.alloc)?;
+        let names = record.names.copy()?;
         self.add(DESK, WIZARD, Deed::Rename { object, names })
     }
 
@@ -211,7 +211,7 @@ impl<'a> Spelling<'a> {
         let Some(Record { key: Some(key), .. }) = goal.get(object) else {
             return Ok(());
         };
-        let key = key.copy(self.alloc)?;
+        let key = key.copy()?;
         self.add(DESK, WIZARD, Deed::Lock { object, key })
     }
 

@@ -18,5 +18,5 @@ pub mod Journeys
 pub mod Guiding
 pub mod Sample
 pub mod Coming
-pub mod Talk
+pub mod Applied
 mod Sitting

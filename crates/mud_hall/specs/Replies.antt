@@ -1,5 +1,6 @@
 -- The reply to a line that acts, and its effect on the desk.
-use Rattle.std.specs.Prelude.{◌≡◌, ℕ, ◌+◌, ◌<◌, List, length, Option, Result, Ok, Err, string_bytes}
+use Rattle.std.specs.Prelude.{◌≡◌, ℕ, ◌+◌, ◌<◌, List, length, Option, Result, Ok, Err}
+use Rattle.std.specs.Cow.{cow_str_bytes}
 use Rattle.mud_words.specs.Line.{Line}
 use Rattle.mud_world.specs.declared.change.Change.{Change}
 use Rattle.mud_world.specs.declared.refusal.Refusal.{Refusal}
@@ -25,9 +26,9 @@ pub data Reply : Type 0 where
 
 -- the result of a call, with texts as bytes
 abbrev pub reply_shown : Result Returned Fault → Reply
-reply_shown (Ok (returned.Accepted v text)) = Accepted v (string_bytes text)
-reply_shown (Ok (returned.Became v text)) = Became v (string_bytes text)
-reply_shown (Ok (returned.Refused v f text)) = Refused v f (string_bytes text)
+reply_shown (Ok (returned.Accepted v text)) = Accepted v (cow_str_bytes text)
+reply_shown (Ok (returned.Became v text)) = Became v (cow_str_bytes text)
+reply_shown (Ok (returned.Refused v f text)) = Refused v f (cow_str_bytes text)
 reply_shown (Ok (returned.Question v)) = Question v
 reply_shown (Err fault) = Failed fault
 

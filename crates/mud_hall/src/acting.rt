@@ -17,6 +17,7 @@ use mud_rules::{Verdict, decide, refusal_text, reply_text, welcome_text};
 use mud_words::Parsed;
 use mud_world::Change;
 use std::alloc::Global;
+use std::borrow::CowStr;
 
 impl<J: HallName> Desk<J> {
     // Decides a line in the world of all known entries.
@@ -30,18 +31,17 @@ impl<J: HallName> Desk<J> {
     {
         match decide(alloc, self.world(), self.player(), said)? {
             Verdict::Refused(refusal) => {
-                let text = String::from_str(alloc, refusal_text(refusal))?;
                 Ok(Reply::Refused {
                     version: self.seen(),
                     refusal,
-                    text,
+                    text: CowStr::Borrowed(refusal_text(refusal)),
                 })
             }
             Verdict::Ask(_) => Ok(Reply::Question {
                 version: self.seen(),
             }),
             Verdict::Become(player) => {
-                let text = welcome_text(alloc, player)?;
+                let text = CowStr::Owned(welcome_text(alloc, player)?);
                 self.player = Some(player);
                 Ok(Reply::Became {
                     version: self.seen(),

@@ -12,15 +12,18 @@ ghost use Rattle.mud_hall.specs.inner.Desks.{notice_in};
 ghost use Rattle.mud_hall.specs.Desk.{View, TakesIn, Learns, IsNew, as_guest, pending, with_told};
 
 use crate::name::HallName;
-use crate::travel::is_talk;
+use crate::travel::follow_change;
 use mud_chron::Entry;
 use mud_roads::Traveller;
 use mud_row::{Replica, Row};
-use mud_rules::heard;
+use mud_rules::{heard, push_about};
 use mud_world::World;
 use std::alloc::{AllocError, Global};
 use std::marker::{Model, PhantomData};
 use std::mem;
+
+// The bytes of the longest version in a notice, with its parentheses and the space behind them.
+const VERSION_BYTES: usize = 8;
 
 /// One caller's side of a hall: its player, its replica of the history, its accepted calls, and its notices. The
 /// replica is boxed, so that a desk is cheap to move.
@@ -31,7 +34,7 @@ pub struct Desk<J: HallName> {
     pub(crate) replica: Box<Replica>,
     pub(crate) calls: Vec<u32>,
     pub(crate) told: Vec<String>,
-    // the traveller of its player, as long as the world and the player stay the same
+    // the traveller of its player, as long as nothing is opened or closed
     pub(crate) traveller: Option<Traveller>,
     of: PhantomData<J>,
 }
@@ -130,10 +133,8 @@ impl<J: HallName> Desk<J> {
         let version = replica.at() + 1;
         let line = line_told(alloc, self.player, version, replica.world(), entry)?;
         self.told.reserve(1)?;
-        if !is_talk(entry.change()) {
-            self.traveller = None;
-        }
         replica.step(row)?;
+        follow_change(&mut self.traveller, replica.world(), entry.change());
         push_line(&mut self.told, line);
         Ok(true)
     }
@@ -224,5 +225,9 @@ fn line_told(
 fn notice_text(alloc: Global, version: u32, line: &str) -> Result<String, AllocError>
     ensures { IfOk result (λ text. string_bytes text ≡ notice_text version line.now) }
 {
-    Ok(format!(in alloc; "({version}) {line}")?)
+    let mut text = String::with_capacity(alloc, line.len().saturating_add(VERSION_BYTES))?;
+    push_about(&mut text, "(", version)?;
+    text.push_str(") ")?;
+    text.push_str(line)?;
+    Ok(text)
 }

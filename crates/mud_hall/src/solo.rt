@@ -13,6 +13,7 @@ ghost use Rattle.mud_words.specs.Line.{line_of};
 ghost use Rattle.mud_rules.specs.Outcome.{IsLawful};
 ghost use Rattle.mud_rules.specs.inner.Outcome.{IsJourney};
 ghost use Rattle.mud_rules.specs.Replies.{reply_text};
+ghost use Rattle.std.specs.Cow.{cow_str_bytes};
 ghost use Rattle.mud_hall.specs.Notices.{world_after};
 ghost use Rattle.mud_hall.specs.Desk.{as_player, as_accepted, with_told};
 ghost use Rattle.mud_hall.specs.Replies.{reply_shown, verdict_on, Replies, Stores};
@@ -27,7 +28,7 @@ use crate::fault::{Fault, ResumeFault};
 use crate::guide::{Through, by_workers};
 use crate::reply::Reply;
 use crate::texts::history_answer;
-use crate::travel::is_talk;
+use crate::travel::follow_change;
 use mud_chron::{ChronFault, Entry, replay};
 use mud_guide::{Answer, Workers};
 use mud_roads::Traveller;
@@ -36,6 +37,7 @@ use mud_search::OpenGate;
 use mud_words::Parsed;
 use mud_world::{Change, World};
 use std::alloc::{AllocError, Global};
+use std::borrow::CowStr;
 use std::marker::Model;
 use std::sync::Wait;
 use std::thread::Threads;
@@ -50,7 +52,7 @@ pub struct Solo {
     history: Vec<Entry>,
     player: u32,
     workers: u32,
-    // the traveller of its player, as long as the world and the player stay the same
+    // the traveller of its player, as long as nothing is opened or closed
     traveller: Option<Traveller>,
 }
 
@@ -151,18 +153,17 @@ impl Solo {
     {
         match self.verdict(said)? {
             Verdict::Refused(refusal) => {
-                let text = String::from_str(self.alloc, refusal_text(refusal))?;
                 Ok(Reply::Refused {
                     version: self.version(),
                     refusal,
-                    text,
+                    text: CowStr::Borrowed(refusal_text(refusal)),
                 })
             }
             Verdict::Ask(_) => Ok(Reply::Question {
                 version: self.version(),
             }),
             Verdict::Become(player) => {
-                let text = welcome_text(self.alloc, player)?;
+                let text = CowStr::Owned(welcome_text(self.alloc, player)?);
                 self.seat(player);
                 Ok(Reply::Became {
                     version: self.version(),
@@ -217,9 +218,9 @@ impl Solo {
     }
 
     // Returns the reply to a change, if the history has room for one more.
-    fn text(&self, change: &Change) -> Result<String, Fault>
+    fn text(&self, change: &Change) -> Result<CowStr<'static, Global>, Fault>
         ensures text { IfOk result
-            (λ text. string_bytes text ≡ reply_text (world_after self.now.state.seen) change.now) }
+            (λ text. cow_str_bytes text ≡ reply_text (world_after self.now.state.seen) change.now) }
         ensures room { OnOk result (length self.now.state.seen < self.now.capacity) }
         ensures fault { IfErr result (λ f. (f ≡ Fault.OutOfMemory)
             ⊎ ((f ≡ Fault.HistoryFull) × (length self.now.state.seen ≡ self.now.capacity))) }
@@ -240,9 +241,7 @@ impl Solo {
         ensures err { OnErr result (self.new.state ≡ self.old.state) }
     {
         apply(&mut self.history, &mut self.world, &change)?;
-        if !is_talk(&change) {
-            self.traveller = None;
-        }
+        follow_change(&mut self.traveller, &self.world, &change);
         self.player = change.actor;
         self.history.push_reserved(Entry::new(1, change));
         Ok(())

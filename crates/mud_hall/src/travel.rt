@@ -2,8 +2,9 @@
 
 ghost use Rattle.std.specs.Prelude.{◌≡◌, Some, IfSome, IsTrue};
 ghost use Rattle.mud_world.specs.State.{State, is_player};
-ghost use Rattle.mud_world.specs.Legal.{after};
-ghost use Rattle.mud_roads.specs.Passable.{IsTraveller};
+ghost use Rattle.mud_world.specs.Sound.{IsSound};
+ghost use Rattle.mud_world.specs.History.{step_or_same};
+ghost use Rattle.mud_roads.specs.Passable.{IsTraveller, keeps_roads};
 
 use mud_roads::Traveller;
 use mud_rules::{Journey, Query, Verdict};
@@ -42,11 +43,29 @@ pub(crate) fn traveller_of(traveller: &Option<Traveller>, player: u32) -> Option
     }
 }
 
-/// Returns whether a change leaves the world as it is, and so everything that is open to its players.
-pub(crate) fn is_talk(change: &Change) -> bool
-    ensures { IsTrue result → (w : State) → after w change.now ≡ w }
+/// Has a known traveller follow a change. `world` is the world after the change. The traveller is forgotten if the
+/// change may open or close something.
+pub(crate) fn follow_change(traveller: &mut Option<Traveller>, world: &World, change: &Change)
+    ensures { (was : State) → IsSound was → IfSome traveller.old (IsTraveller was)
+        → world.now ≡ step_or_same was change.now → IfSome traveller.new (IsTraveller world.now) }
 {
-    matches!(&change.deed, Deed::Say(_) | Deed::Emote(_))
+    if !keeps_roads(change) {
+        *traveller = None;
+        return;
+    }
+    if let Some(known) = traveller {
+        known.follow(world);
+    }
+}
+
+// Returns whether a change keeps all roads: talk and walks do.
+fn keeps_roads(change: &Change) -> bool
+    ensures { result ≡ keeps_roads change.now.deed }
+{
+    matches!(
+        &change.deed,
+        Deed::Say(_) | Deed::Emote(_) | Deed::Walk { .. }
+    )
 }
 
 // Returns whether a line asks for a route, or for the proof of one.

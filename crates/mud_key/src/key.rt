@@ -8,12 +8,13 @@ use crate::node::Node;
 use crate::operator::Operator;
 use std::alloc::{AllocError, Global};
 use std::marker::Model;
+use std::sync::Arc;
 
 /// A key over objects with numbers from 0 to 8,191. It has at most 16 objects and 64 `!` (docs/KEYS.md, "Keys"). A
-/// contract sees its tree.
+/// contract sees its tree. Copies share the tree in memory, also across threads.
 #[derive(Drop)]
 pub struct Key {
-    tree: Node<u32>,
+    tree: Arc<Node<u32>>,
 }
 
 impl Model for Key {
@@ -26,18 +27,20 @@ impl Model for Key {
 
     ghost coded = { coded_number_tree };
 
-    ghost view = { λ k. key_of k.tree };
+    ghost view = { λ k. key_of k.tree.value };
 
-    ghost invariant = { λ k. IsKey (key_of k.tree) };
+    ghost invariant = { λ k. IsKey (key_of k.tree.value) };
 }
 
 impl Key {
     /// Returns the key with this root.
-    pub(crate) fn of(tree: Node<u32>) -> Key
+    pub(crate) fn of(alloc: Global, tree: Node<u32>) -> Result<Key, AllocError>
         requires { IsKey (key_of tree) }
-        ensures { result ≡ key_of tree }
+        ensures { IfOk result (λ key. key ≡ key_of tree) }
     {
-        Key { tree }
+        Ok(Key {
+            tree: Arc::new(alloc, tree)?,
+        })
     }
 
     /// Returns the root of the tree, for a recursive descent.
@@ -48,26 +51,13 @@ impl Key {
         &self.tree
     }
 
-    /// Returns an equal key.
-    pub fn copy(&self, alloc: Global) -> Result<Key, AllocError>
+    /// Returns an equal key, which shares the tree.
+    pub fn copy(&self) -> Result<Key, AllocError>
         ensures { IfOk result (λ key. key ≡ self.now) }
     {
-        Ok(Key::of(copy_node(alloc, self.node())?))
-    }
-}
-
-fn copy_node(alloc: Global, node: &Node<u32>) -> Result<Node<u32>, AllocError>
-    ensures { IfOk result (λ k. key_of k ≡ key_of node.now) }
-{
-    match node {
-        Node::Has(n) => Ok(Node::Has(*n)),
-        Node::Asks(n) => Ok(Node::Asks(*n)),
-        Node::Not(k) => not(alloc, copy_node(alloc, k)?),
-        Node::Join(operator, a, b) => {
-            let a = copy_node(alloc, a)?;
-            let b = copy_node(alloc, b)?;
-            join(alloc, *operator, a, b)
-        }
+        Ok(Key {
+            tree: Arc::try_clone(&self.tree)?,
+        })
     }
 }
 

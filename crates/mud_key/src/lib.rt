@@ -8,7 +8,7 @@
 //! | Call | What it does |
 //! |---|---|
 //! | [`Names::read`], [`Name::read`] | reads a names text, or a single name |
-//! | [`Names::list`], [`Names::copy`] | returns the names, the shown one first; copies them |
+//! | [`Names::list`], [`Names::copy`] | returns the names, the shown one first; equal names that share the texts |
 //! | [`Names::of`] | makes one name into names |
 //! | [`parts`] | splits a text at its commas |
 //! | [`read`] | reads a key text; its objects stay texts |
@@ -16,7 +16,7 @@
 //! | [`print()`] | prints a key with the fewest parentheses |
 //! | [`atoms`], [`asks`] | lists the objects of a key, or those after `?` |
 //! | [`Key::node`], [`KeyText::node`] | returns the tree, for a recursive descent |
-//! | [`Key::copy`] | copies a key |
+//! | [`Key::copy`] | returns an equal key that shares the tree |
 //!
 //! ```text
 //! let names = mud_key::Names::read(alloc, " brass key, key ")?;

@@ -42,7 +42,7 @@ pub trait Namer {
 pub fn resolve<N: Namer>(alloc: Global, key: &KeyText, namer: &N) -> Result<Key, KeyFault>
     ensures { ResolvesAs (resolved (N.meaning namer.now) key.now) result }
 {
-    Ok(Key::of(resolve_node(alloc, key.node(), namer)?))
+    Ok(Key::of(alloc, resolve_node(alloc, key.node(), namer)?)?)
 }
 
 fn resolve_node<N: Namer>(

@@ -2,7 +2,7 @@
 
 ghost use Rattle.std.specs.Prelude.{◌≡◌, [], ◌∷◌, IfOk, map, string_bytes};
 ghost use Rattle.mud_key.specs.Finds.{names_in, Finds};
-ghost use Rattle.mud_key.specs.Names.{AreNames};
+ghost use Rattle.mud_key.specs.Names.{AreNames, texts_of};
 ghost use Rattle.mud_key.specs.inner.NamesTexts.{NamesReadAs};
 
 use crate::name::Name;
@@ -10,6 +10,7 @@ use crate::name_reader::NameReader;
 use crate::texts::Texts;
 use std::alloc::{AllocError, Global};
 use std::marker::Model;
+use std::sync::Arc;
 use thiserror::Error;
 
 /// The reason why a text gives no names (docs/KEYS.md, "Names").
@@ -35,9 +36,10 @@ impl From<AllocError> for NamesFault {
 }
 
 /// The 1 to 4 names of an object; the first is shown (docs/KEYS.md, "Names"). A contract sees the list of their texts.
+/// Copies share the texts in memory, also across threads.
 #[derive(Drop)]
 pub struct Names {
-    texts: Texts,
+    texts: Arc<Texts>,
 }
 
 impl Model for Names {
@@ -46,9 +48,9 @@ impl Model for Names {
 
     ghost Value = { List (List ℕ) };
 
-    ghost view = { λ a. texts_of a.texts };
+    ghost view = { λ a. texts_of a.texts.value };
 
-    ghost invariant = { λ a. AreNames (texts_of a.texts) };
+    ghost invariant = { λ a. AreNames (texts_of a.texts.value) };
 }
 
 impl Names {
@@ -71,9 +73,19 @@ impl Names {
             }
         }
         match reader.settle()? {
-            Some(texts) => Ok(Names { texts }),
+            Some(texts) => Ok(Names::shared(alloc, texts)?),
             None => Err(NamesFault::BadName),
         }
+    }
+
+    // Returns the names with these texts.
+    fn shared(alloc: Global, texts: Texts) -> Result<Names, AllocError>
+        requires { AreNames (texts_of texts) }
+        ensures { IfOk result (λ names. names ≡ texts_of texts) }
+    {
+        Ok(Names {
+            texts: Arc::new(alloc, texts)?,
+        })
     }
 
     /// Makes one name into the names of an object.
@@ -81,9 +93,7 @@ impl Names {
         ensures { IfOk result (λ names. names ≡ name ∷ []) }
     {
         let text = String::from_str(alloc, name.as_str())?;
-        Ok(Names {
-            texts: Texts::One(text),
-        })
+        Names::shared(alloc, Texts::One(text))
     }
 
     /// Returns the names, 1 to 4, in the order of their text.
@@ -94,12 +104,12 @@ impl Names {
         self.texts.as_slice()
     }
 
-    /// Returns equal names.
-    pub fn copy(&self, alloc: Global) -> Result<Names, AllocError>
+    /// Returns equal names, which share the texts.
+    pub fn copy(&self) -> Result<Names, AllocError>
         ensures { IfOk result (λ names. names ≡ self.now) }
     {
         Ok(Names {
-            texts: self.texts.copy(alloc)?,
+            texts: Arc::try_clone(&self.texts)?,
         })
     }
 }

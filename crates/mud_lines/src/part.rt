@@ -140,7 +140,7 @@ impl Part<'_> {
             return Ok(());
         };
         let copy = self.typist.world.next_number();
-        let out = self.kept(exit)?.names.copy(self.alloc)?;
+        let out = self.kept(exit)?.names.copy()?;
         self.typist
             .dig_doors(&Target::Old(to), &Doors { out, back: None })?;
         self.note(exit, copy)

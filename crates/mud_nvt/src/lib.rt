@@ -167,6 +167,17 @@ impl<A: Allocator + Clone + Drop> Nvt<A> {
         Ok(())
     }
 
+    /// Takes the memory of a line that is no longer needed, and uses it for the lines to come. While a line is being
+    /// typed, that memory is freed instead. It does not allocate.
+    pub fn reuse(&mut self, mut line: String<A>)
+        ensures { self.new ≡ self.old }
+    {
+        if self.line.is_empty() {
+            line.clear();
+            self.line = line;
+        }
+    }
+
     // Consumes the leading printable characters, or the first byte if there are none. Returns the number of consumed
     // bytes.
     fn take_front(&mut self, bytes: &[u8], units: &mut Vec<Unit<A>, A>) -> Result<usize, AllocError>

@@ -4,5 +4,6 @@ pub mod Rows
 pub mod Roads
 pub mod Opened
 pub mod Walking
+pub mod Following
 pub mod Single
 pub mod Alike

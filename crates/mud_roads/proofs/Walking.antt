@@ -1,10 +1,10 @@
--- A walking player keeps its roads, so the rest of a walk stays open.
+-- A walk leaves what is open to each player as it is, so the rest of a walk stays open.
 use Rattle.std.proofs.Common.{◌≡◌, ◌≢◌, ℕ, zero, suc, Bool, true, false, ◌&&◌, ◌||◌, cond, [], ◌∷◌, Option, Some, None}
 use Rattle.std.proofs.Common.{refl, sym, ◌∙◌, ap, subst, ⊎_elim}
 use Rattle.std.specs.Prelude.{nat_eq, is_some, is_none, IsTrue, List}
 use Rattle.std.specs.Option.{option_map, option_map_or, option_and_then}
 use Rattle.std.specs.List.{filter_map}
-use Rattle.std.proofs.lemmas.Bool.{cases_eq, eq-eqb, and_parts, not_from_true, or_from, true≢false}
+use Rattle.std.proofs.lemmas.Bool.{cases_eq, eq-eqb, ne_eqb, and_parts, not_from_true, or_from, true≢false}
 use Rattle.mud_world.specs.declared.record.Record.{Record}
 use Rattle.mud_world.specs.declared.record.Passage.{Passage}
 use Rattle.mud_world.specs.declared.record.Kind.{Kind}
@@ -14,13 +14,14 @@ use Rattle.mud_world.specs.declared.change.Deed.TheVariants.{Walk as WalkDeed}
 use Rattle.mud_world.specs.declared.refusal.Refusal.{Refusal}
 use Rattle.mud_world.specs.declared.refusal.Refusal.TheVariants.{NoSuch, WrongKind, NotHere, LockedExit, LockedRoom}
 use Rattle.mud_world.specs.Truth.{key_true}
-use Rattle.mud_world.specs.Kinds.{kind_at, kind_place, kind_passage, is_player_kind, is_exit_kind}
-use Rattle.mud_world.specs.State.{State, record_at, exists, has, is_exit, is_number, is_player, place_of, comes_to}
+use Rattle.mud_world.specs.Kinds.{kind_at, kind_place, kind_passage, is_player_kind, is_exit_kind, is_room_kind}
+use Rattle.mud_world.specs.State.{State, record_at, exists, has, is_exit, is_room, is_number, is_player, place_of}
+use Rattle.mud_world.specs.State.{comes_to}
 use Rattle.mud_world.specs.State.{within, passage_of, destination_of, leaving_of, unlocked_in, unlocked}
 use Rattle.mud_world.specs.Sound.{IsSound}
 use Rattle.mud_world.specs.Legal.{fails, refusal, after as world_after}
 use Rattle.mud_world.specs.inner.Fields.{with_record, with_place, leaves_from}
-use Rattle.mud_world.proofs.KindLemmas.{same_passage, same_player}
+use Rattle.mud_world.proofs.KindLemmas.{same_passage, same_player, same_room}
 use Rattle.mud_world.proofs.Records.{record_cases, lookup-set_value_same, lookup-set_value_other}
 use Rattle.mud_world.proofs.Numbering.{passing-keep}
 use Rattle.mud_world.proofs.Going.{moved_by}
@@ -33,98 +34,71 @@ use Rattle.mud_roads.specs.Passable.{open_step}
 use Rattle.mud_roads.specs.Laws.{IsRoad, IsWalked}
 use Rattle.mud_roads.proofs.Roads.{road-at}
 
--- ---- object p moves
-module _ (w : State) (p y : ℕ) (r : Record) (at : record_at w p ≡ Some r) where
+-- ---- a room
+-- following places from a room comes to no player
+room-comes : (w : State) (n a p : ℕ) → is_room w a ≡ true → is_player w p ≡ true → comes_to w n a p ≡ false
+room-comes w zero a p room player = refl
+room-comes w (suc n) a p room player =
+    record_cases (record_at w a)
+    (λ e. absurd (true≢false (sym room ∙ ap (λ v. option_map_or (λ r. is_room_kind r.kind) v false) e)))
+    (λ r e. of_room r.kind r e refl (sym (ap (λ v. option_map_or (λ r. is_room_kind r.kind) v false) e) ∙ room))
+  where
+    apart : (r : Record) → record_at w a ≡ Some r → r.kind ≡ Room → nat_eq a p ≡ false
+    apart r e kind =
+        ne_eqb a p (λ same. true≢false (sym player ∙ ap (is_player w) (sym same)
+        ∙ ap (λ v. option_map_or (λ r. is_player_kind r.kind) v false) e ∙ ap is_player_kind kind))
+
+    of_room : (k : Kind) (r : Record) → record_at w a ≡ Some r → r.kind ≡ k → is_room_kind k ≡ true
+        → comes_to w (suc n) a p ≡ false
+    of_room Room r e kind is =
+        ap (λ b. b || option_map_or (λ c. comes_to w n c p) (place_of w a) false) (apart r e kind)
+        ∙ ap (λ v. option_map_or (λ c. comes_to w n c p) v false)
+        (ap (option_and_then (λ r. kind_place r.kind)) e ∙ ap kind_place kind)
+    of_room (Exit b) r e kind is = absurd (true≢false (sym is))
+    of_room (Thing b) r e kind is = absurd (true≢false (sym is))
+    of_room (Player b) r e kind is = absurd (true≢false (sym is))
+
+-- ---- object q moves
+module _ (w : State) (q y : ℕ) (r : Record) (at : record_at w q ≡ Some r) where
   abbrev r' : Record
   r' = record r { kind = kind_at y r.kind }
 
   abbrev w' : State
-  w' = with_record w p r'
+  w' = with_record w q r'
 
-  here : record_at w' p ≡ Some r'
-  here = lookup-set_value_same p r' r w.objects at
+  here : record_at w' q ≡ Some r'
+  here = lookup-set_value_same q r' r w.objects at
 
-  there : (n : ℕ) → n ≢ p → record_at w' n ≡ record_at w n
-  there n apart = lookup-set_value_other p n apart r' w.objects
+  there : (n : ℕ) → n ≢ q → record_at w' n ≡ record_at w n
+  there n apart = lookup-set_value_other q n apart r' w.objects
 
   -- the facts about a record, except its place, do not change
   kept : {X : Type 0} (f : Option Record → X) → f (Some r') ≡ f (Some r) → (n : ℕ)
       → f (record_at w' n) ≡ f (record_at w n)
   kept f same n =
       ⊎_elim
-      (λ (e : n ≡ p). ap (λ m. f (record_at w' m)) e ∙ ap f here ∙ same ∙ sym (ap f at)
+      (λ (e : n ≡ q). ap (λ m. f (record_at w' m)) e ∙ ap f here ∙ same ∙ sym (ap f at)
       ∙ sym (ap (λ m. f (record_at w m)) e))
       (λ apart. ap f (there n apart))
-      (cases_eq n p)
+      (cases_eq n q)
 
   kept_passage : (n : ℕ) → passage_of w' n ≡ passage_of w n
   kept_passage n = kept (λ v. option_and_then (λ r. kind_passage r.kind) v) (same_passage y r.kind) n
 
   kept_leaving : (n : ℕ) → leaving_of w' n ≡ leaving_of w n
   kept_leaving n =
-      passing-keep (λ r. is_number n (option_map (λ p. p.source) (kind_passage r.kind))) p r' r w.objects at
+      passing-keep (λ r. is_number n (option_map (λ p. p.source) (kind_passage r.kind))) q r' r w.objects at
       (ap (λ v. is_number n (option_map (λ p. p.source) v)) (same_passage y r.kind))
 
-  pub kept-player : is_player w' p ≡ is_player w p
-  kept-player = kept (λ v. option_map_or (λ r. is_player_kind r.kind) v false) (same_player y r.kind) p
+  pub kept-player : (p : ℕ) → is_player w' p ≡ is_player w p
+  kept-player p = kept (λ v. option_map_or (λ r. is_player_kind r.kind) v false) (same_player y r.kind) p
 
-  -- following places to p does not depend on the place of p
-  kept_comes : (n o : ℕ) → comes_to w' n o p ≡ comes_to w n o p
-  kept_comes zero o = refl
-  kept_comes (suc n) o =
-      ⊎_elim
-      (λ (e : o ≡ p).
-      ap (λ b. b || option_map_or (λ q. comes_to w' n q p) (place_of w' o) false) (eq-eqb o p e)
-      ∙ sym (ap (λ b. b || option_map_or (λ q. comes_to w n q p) (place_of w o) false) (eq-eqb o p e)))
-      (λ apart.
-      let again : (λ (q : ℕ). comes_to w' n q p) ≡ (λ (q : ℕ). comes_to w n q p) = λ i q. (kept_comes n q) i in
-      ap (λ v. nat_eq o p || option_map_or (λ q. comes_to w' n q p) (option_and_then (λ r. kind_place r.kind) v) false)
-      (there o apart)
-      ∙ ap (λ (f : ℕ → Bool). nat_eq o p || option_map_or f (place_of w o) false) again)
-      (cases_eq o p)
+  -- the place of another object does not change
+  pub kept-place : (p : ℕ) → p ≢ q → place_of w' p ≡ place_of w p
+  kept-place p apart = ap (option_and_then (λ r. kind_place r.kind)) (there p apart)
 
-  kept_within : ◌≡◌ {A = ℕ → Bool} (λ o. within w' o p) (λ o. within w o p)
-  kept_within = λ i o.
-      (ap (λ b. b && comes_to w' w.next o p) (kept is_some refl o) ∙ ap (λ b. exists w o && b) (kept_comes w.next o)) i
-
-  kept_unlocked_in : (n o : ℕ) → unlocked_in w' n (λ a. within w' a p) o ≡ unlocked_in w n (λ a. within w a p) o
-  kept_unlocked_in zero o = kept (λ v. option_map_or (λ r. is_none r.key) v false) refl o
-  kept_unlocked_in (suc n) o =
-      let again : unlocked_in w' n (λ a. within w' a p) ≡ unlocked_in w n (λ a. within w a p) =
-      λ i o. (kept_unlocked_in n o) i in
-      let held : ℕ → Bool = λ a. within w a p in
-      ap (λ (f : ℕ → Bool). has w' o (λ r. option_map_or (key_true (λ a. within w' a p) f) r.key true)) again
-      ∙ ap (λ (f : ℕ → Bool). has w' o (λ r. option_map_or (key_true f (unlocked_in w n held)) r.key true))
-      kept_within
-      ∙ kept (λ v. option_map_or
-      (λ r. option_map_or (key_true held (unlocked_in w n held)) r.key true) v false) refl o
-
-  kept_unlocked : (n : ℕ) → unlocked w' p n ≡ unlocked w p n
-  kept_unlocked n = kept_unlocked_in 4 n
-
-  kept_passable : (n : ℕ) → passable w' p n ≡ passable w p n
-  kept_passable n =
-      let again : unlocked w' p ≡ unlocked w p = λ i n. (kept_unlocked n) i in
-      ap (λ (f : ℕ → Bool). option_map_or (λ a. f n && f a.destination) (passage_of w' n) false) again
-      ∙ ap (λ v. option_map_or (λ a. unlocked w p n && unlocked w p a.destination) v false) (kept_passage n)
-
-  kept_step : (n : ℕ) → open_step w' p n ≡ open_step w p n
-  kept_step n =
-      ap (λ b. cond b (option_map (λ a. record { exit = n; to = a.destination; cost = a.cost }) (passage_of w' n)) None)
-      (kept_passable n)
-      ∙ ap (λ v. cond (passable w p n)
-      (option_map (λ a. record { exit = n; to = a.destination; cost = a.cost }) v) None) (kept_passage n)
-
-  -- the roads of the moved player do not change
-  pub kept-roads : roads_of w' p ≡ roads_of w p
-  unfolding roads_of
-  kept-roads =
-      let step : open_step w' p ≡ open_step w p = λ i n. (kept_step n) i in
-      λ i room. (ap (filter_map (open_step w' p)) (kept_leaving room)
-      ∙ ap (λ (f : ℕ → Option Step). filter_map f (leaving_of w room)) step) i
-
-  -- and the player is in the new place
-  pub placed-anew : is_player_kind r.kind ≡ true → place_of w' p ≡ Some y
+  -- and the object is in the new place
+  pub placed-anew : is_player_kind r.kind ≡ true → place_of w' q ≡ Some y
   placed-anew player = ap (option_and_then (λ r. kind_place r.kind)) here ∙ new_place r.kind player
     where
       new_place : (k : Kind) → is_player_kind k ≡ true → kind_place (kind_at y k) ≡ Some y
@@ -132,6 +106,89 @@ module _ (w : State) (p y : ℕ) (r : Record) (at : record_at w p ≡ Some r) wh
       new_place (Exit a) e = absurd (true≢false (sym e))
       new_place (Thing q) e = absurd (true≢false (sym e))
       new_place (Player q) e = refl
+
+  -- following places to q does not depend on the place of q
+  pub comes-own : (n o : ℕ) → comes_to w' n o q ≡ comes_to w n o q
+  comes-own zero o = refl
+  comes-own (suc n) o =
+      ⊎_elim
+      (λ (e : o ≡ q).
+      ap (λ b. b || option_map_or (λ c. comes_to w' n c q) (place_of w' o) false) (eq-eqb o q e)
+      ∙ sym (ap (λ b. b || option_map_or (λ c. comes_to w n c q) (place_of w o) false) (eq-eqb o q e)))
+      (λ apart.
+      let again : (λ (c : ℕ). comes_to w' n c q) ≡ (λ (c : ℕ). comes_to w n c q) = λ i c. (comes-own n c) i in
+      ap (λ v. nat_eq o q || option_map_or (λ c. comes_to w' n c q) (option_and_then (λ r. kind_place r.kind) v) false)
+      (there o apart)
+      ∙ ap (λ (f : ℕ → Bool). nat_eq o q || option_map_or f (place_of w o) false) again)
+      (cases_eq o q)
+
+  -- nor does following them to a player, if q is another one who goes from one room to another
+  pub comes-other : (p a : ℕ) → is_player_kind r.kind ≡ true → p ≢ q → is_player w p ≡ true → place_of w q ≡ Some a
+      → is_room w a ≡ true → is_room w y ≡ true → (n o : ℕ) → comes_to w' n o p ≡ comes_to w n o p
+  comes-other p a player apart is from a_room y_room zero o = refl
+  comes-other p a player apart is from a_room y_room (suc n) o =
+      let there_room : is_room w' y ≡ true = kept_room y ∙ y_room in
+      let there_player : is_player w' p ≡ true = kept-player p ∙ is in
+      ⊎_elim
+      (λ (e : o ≡ q).
+      let now : place_of w' o ≡ Some y = ap (place_of w') e ∙ placed-anew player in
+      let was : place_of w o ≡ Some a = ap (place_of w) e ∙ from in
+      ap (λ v. nat_eq o p || option_map_or (λ c. comes_to w' n c p) v false) now
+      ∙ ap (λ b. nat_eq o p || b) (room-comes w' n y p there_room there_player)
+      ∙ sym (ap (λ v. nat_eq o p || option_map_or (λ c. comes_to w n c p) v false) was
+      ∙ ap (λ b. nat_eq o p || b) (room-comes w n a p a_room is)))
+      (λ elsewhere.
+      let again : (λ (c : ℕ). comes_to w' n c p) ≡ (λ (c : ℕ). comes_to w n c p) =
+      λ i c. (comes-other p a player apart is from a_room y_room n c) i in
+      ap (λ v. nat_eq o p || option_map_or (λ c. comes_to w' n c p) (option_and_then (λ r. kind_place r.kind) v) false)
+      (there o elsewhere)
+      ∙ ap (λ (f : ℕ → Bool). nat_eq o p || option_map_or f (place_of w o) false) again)
+      (cases_eq o q)
+    where
+      kept_room : (n : ℕ) → is_room w' n ≡ is_room w n
+      kept_room n = kept (λ v. option_map_or (λ r. is_room_kind r.kind) v false) (same_room y r.kind) n
+
+  -- ---- then what is open to p does not change, if following places to p does not
+  module _ (p : ℕ) (comes : (n o : ℕ) → comes_to w' n o p ≡ comes_to w n o p) where
+    kept_within : ◌≡◌ {A = ℕ → Bool} (λ o. within w' o p) (λ o. within w o p)
+    kept_within = λ i o.
+        (ap (λ b. b && comes_to w' w.next o p) (kept is_some refl o) ∙ ap (λ b. exists w o && b) (comes w.next o)) i
+
+    kept_unlocked_in : (n o : ℕ) → unlocked_in w' n (λ a. within w' a p) o ≡ unlocked_in w n (λ a. within w a p) o
+    kept_unlocked_in zero o = kept (λ v. option_map_or (λ r. is_none r.key) v false) refl o
+    kept_unlocked_in (suc n) o =
+        let again : unlocked_in w' n (λ a. within w' a p) ≡ unlocked_in w n (λ a. within w a p) =
+        λ i o. (kept_unlocked_in n o) i in
+        let held : ℕ → Bool = λ a. within w a p in
+        ap (λ (f : ℕ → Bool). has w' o (λ r. option_map_or (key_true (λ a. within w' a p) f) r.key true)) again
+        ∙ ap (λ (f : ℕ → Bool). has w' o (λ r. option_map_or (key_true f (unlocked_in w n held)) r.key true))
+        kept_within
+        ∙ kept (λ v. option_map_or
+        (λ r. option_map_or (key_true held (unlocked_in w n held)) r.key true) v false) refl o
+
+    pub kept-unlocked : (n : ℕ) → unlocked w' p n ≡ unlocked w p n
+    kept-unlocked n = kept_unlocked_in 4 n
+
+    kept_passable : (n : ℕ) → passable w' p n ≡ passable w p n
+    kept_passable n =
+        let again : unlocked w' p ≡ unlocked w p = λ i n. (kept-unlocked n) i in
+        ap (λ (f : ℕ → Bool). option_map_or (λ a. f n && f a.destination) (passage_of w' n) false) again
+        ∙ ap (λ v. option_map_or (λ a. unlocked w p n && unlocked w p a.destination) v false) (kept_passage n)
+
+    kept_step : (n : ℕ) → open_step w' p n ≡ open_step w p n
+    kept_step n =
+        ap (λ b. cond b
+        (option_map (λ a. record { exit = n; to = a.destination; cost = a.cost }) (passage_of w' n)) None)
+        (kept_passable n)
+        ∙ ap (λ v. cond (passable w p n)
+        (option_map (λ a. record { exit = n; to = a.destination; cost = a.cost }) v) None) (kept_passage n)
+
+    pub kept-roads : roads_of w' p ≡ roads_of w p
+    unfolding roads_of
+    kept-roads =
+        let step : open_step w' p ≡ open_step w p = λ i n. (kept_step n) i in
+        λ i room. (ap (filter_map (open_step w' p)) (kept_leaving room)
+        ∙ ap (λ (f : ℕ → Option Step). filter_map f (leaving_of w room)) step) i
 
 -- ---- one step
 has-exists : (w : State) (n : ℕ) (test : Record → Bool) → has w n test ≡ true → exists w n ≡ true
@@ -214,9 +271,10 @@ walks_law w sound p from to (s ∷ ss) player place walk =
           let moved-sound =
           subst IsSound is (soundness_law w (record { actor = p; deed = WalkDeed s.exit }) sound legal) in
           let rest : Walk (roads_of (with_record w p (record r { kind = kind_at s.to r.kind })) p) s.to ss to =
-          subst (λ (roads : Roads). Walk roads s.to ss to) (sym (kept-roads w p s.to r at)) walk.1 in
+          subst (λ (roads : Roads). Walk roads s.to ss to)
+          (sym (kept-roads w p s.to r at p (comes-own w p s.to r at))) walk.1 in
           let P : State → Type 0 = λ v. IsWalked v p ss to in
           subst P (sym is)
           (walks_law (with_record w p (record r { kind = kind_at s.to r.kind })) moved-sound p s.to to ss
-          (kept-player w p s.to r at ∙ player) (placed-anew w p s.to r at kind) rest)),
+          (kept-player w p s.to r at p ∙ player) (placed-anew w p s.to r at kind) rest)),
     )

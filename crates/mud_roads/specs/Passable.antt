@@ -1,11 +1,13 @@
 -- The exits that are open to a player of a world.
-use Rattle.std.specs.Prelude.{◌≡◌, refl, ℕ, Bool, false, ◌&&◌, List, [], Some, IsTrue, slice_index_or}
+use Rattle.std.specs.Prelude.{◌≡◌, refl, ℕ, Bool, true, false, ◌&&◌, List, [], Some, IsTrue, slice_index_or}
 use Rattle.std.specs.Prelude.{if◌then◌else◌, Option, None}
 use Rattle.std.specs.Option.{option_map, option_map_or}
 use Rattle.std.specs.List.{filter_map}
 use Rattle.std.specs.Coded.{Coded, code_by, coded×, coded_ℕ, coded_bool, coded_list}
 use Rattle.mud_world.specs.declared.record.Passage.{Passage}
 use Rattle.mud_world.specs.State.{State, is_player, place_of, passage_of, leaving_of, unlocked}
+use Rattle.mud_world.specs.declared.change.Deed.{Deed}
+use Rattle.mud_world.specs.declared.change.Deed.TheVariants.{Say, Emote, Walk}
 use Rattle.mud_roads.specs.declared.label.Step.{Step}
 use Rattle.mud_roads.specs.contracts.label.Step as step
 use Rattle.mud_roads.specs.Walks.{Roads}
@@ -37,6 +39,11 @@ pub record Knowledge : Type 0 where
 abbrev pub knowledge_of : ℕ → ℕ → List Bool → List (List Step) → Knowledge
 knowledge_of player place marks rows = record { player = player; place = place; marks = marks; rows = rows }
 
+-- the traveller in this place, if there is one, with the knowledge that it has
+abbrev pub moved_to : Knowledge → Option ℕ → Knowledge
+moved_to t (Some place) = record t { place = place }
+moved_to t None = t
+
 -- the record encoded as the tuple of its fields
 abbrev pub knowledge_code : Coded Knowledge
 knowledge_code =
@@ -51,6 +58,13 @@ knows_unlocked t n = slice_index_or t.marks n false
 -- the roads that the traveller knows
 abbrev pub known_roads : Knowledge → Roads
 known_roads t room = slice_index_or t.rows room []
+
+-- true for talk and walks. Such a change moves at most its actor: it opens nothing and closes nothing
+abbrev pub keeps_roads : Deed → Bool
+keeps_roads (Say text) = true
+keeps_roads (Emote text) = true
+keeps_roads (Walk exit) = true
+keeps_roads deed = false
 
 -- the traveller is a player of this world, and its knowledge is true there
 pub record IsTraveller (w : State) (t : Knowledge) : Type 0 where

@@ -3,6 +3,7 @@
 //! | Call | Result |
 //! |---|---|
 //! | [`Traveller::of`] | a player of a world, with everything that is unlocked for the player |
+//! | [`Traveller::follow`] | the same traveller after talk or a walk of any player |
 //! | [`Traveller::passes`] | whether an exit is open to the traveller |
 //! | [`Traveller::step_by`] | the step of an exit, if it is open to the traveller |
 //! | [`Traveller::leave`] | the open exits of a room, sorted by number |

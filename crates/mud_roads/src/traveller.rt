@@ -1,8 +1,12 @@
 //! Travellers.
 
 ghost use Rattle.std.specs.Prelude.{◌≡◌, IfOk, IsTrue};
-ghost use Rattle.mud_world.specs.State.{is_player};
-ghost use Rattle.mud_roads.specs.Passable.{passable, open_step, roads_of, known_roads, IsTraveller};
+ghost use Rattle.mud_world.specs.State.{State, is_player, place_of};
+ghost use Rattle.mud_world.specs.Sound.{IsSound};
+ghost use Rattle.mud_world.specs.declared.change.Change.{Change};
+ghost use Rattle.mud_world.specs.History.{step_or_same};
+ghost use Rattle.mud_roads.specs.Passable.{passable, open_step, roads_of, known_roads, keeps_roads, moved_to};
+ghost use Rattle.mud_roads.specs.Passable.{IsTraveller};
 
 use crate::Step;
 use crate::access::Access;
@@ -11,8 +15,8 @@ use mud_world::World;
 use std::alloc::{AllocError, Global};
 use std::marker::Model;
 
-/// A player of a world, with its place and everything that is open to it. A traveller is a snapshot of one world and
-/// does not follow later changes. Making one evaluates each key of the world once, and each exit once.
+/// A player of a world, with its place and everything that is open to it. A traveller is a snapshot of one world; of
+/// later changes it follows talk and walks. Making one evaluates each key of the world once, and each exit once.
 #[derive(Drop)]
 pub struct Traveller {
     access: Access,
@@ -54,6 +58,18 @@ impl Traveller {
         ensures { result ≡ self.now.player }
     {
         self.access.player
+    }
+
+    /// Follows a change that keeps all roads: talk, or a walk of any player. Only its place can be another one then.
+    /// `world` is the world after the change.
+    pub fn follow(&mut self, world: &World)
+        ensures moved { self.new ≡ moved_to self.old (place_of world.now self.old.player) }
+        ensures traveller { (was : State) (e : Change) → IsSound was → IsTraveller was self.old
+            → IsTrue (keeps_roads e.deed) → world.now ≡ step_or_same was e → IsTraveller world.now self.new }
+    {
+        if let Some(place) = world.place(self.access.player) {
+            self.place = place;
+        }
     }
 
     /// Returns the room where the traveller stands.

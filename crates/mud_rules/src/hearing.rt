@@ -67,7 +67,10 @@ fn sentence(
 ) -> Result<String, AllocError>
     ensures { IfOk result (λ line. string_bytes line ≡ who.now ++ does.now ++ what.now ++ end.now) }
 {
-    let mut line = String::from_str(alloc, who)?;
+    let front = who.len().saturating_add(does.len());
+    let back = what.len().saturating_add(end.len());
+    let mut line = String::with_capacity(alloc, front.saturating_add(back))?;
+    line.push_str(who)?;
     line.push_str(does)?;
     line.push_str(what)?;
     line.push_str(end)?;

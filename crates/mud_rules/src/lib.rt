@@ -65,6 +65,7 @@ mod verdict;
 pub use answers::show;
 pub use hearing::heard;
 pub use line::{decide, is_question, is_quit};
+pub use listing::push_about;
 pub use matching::{Match, local_match, player_match, room_match};
 pub use mud_world::Refusal;
 pub use party::Party;

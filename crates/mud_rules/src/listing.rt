@@ -30,8 +30,8 @@ fn push_number(text: &mut String, number: u32) -> Result<(), AllocError>
     push_digit(text, number % 10)
 }
 
-// Appends words and a decimal number.
-pub(crate) fn push_about(text: &mut String, words: &str, number: u32) -> Result<(), AllocError>
+/// Appends words and a decimal number. The only error is out of memory.
+pub fn push_about(text: &mut String, words: &str, number: u32) -> Result<(), AllocError>
     ensures { OnOk result (string_bytes text.new ≡ string_bytes text.old ++ words.now ++ decimal number) }
 {
     text.push_str(words)?;

@@ -5,11 +5,13 @@ ghost use Rattle.mud_key.specs.Printed.{printed, by_text};
 ghost use Rattle.mud_world.specs.State.{destination_of};
 ghost use Rattle.mud_rules.specs.Replies.{refusal_text, welcome_text, exits_text, dug_text, move_text};
 ghost use Rattle.mud_rules.specs.Replies.{reply_text};
+ghost use Rattle.std.specs.Cow.{cow_str_bytes};
 
 use crate::listing::push_about;
 use mud_key::{Key, print};
 use mud_world::{Change, Deed, Doors, Refusal, Target, World};
 use std::alloc::{AllocError, Global};
+use std::borrow::CowStr;
 
 // The capacity for the longest reply with two numbers.
 const REPLY: usize = 40;
@@ -41,24 +43,29 @@ pub fn refusal_text(refusal: Refusal) -> &'static str
 }
 
 /// Returns the reply to an accepted change (docs/COMMANDS.md, "Answers"). The world is the one before the
-/// change, because the numbers of new objects are its next numbers.
-pub fn reply_text(alloc: Global, world: &World, change: &Change) -> Result<String, AllocError>
-    ensures { IfOk result (λ text. string_bytes text ≡ reply_text world.now change.now) }
+/// change, because the numbers of new objects are its next numbers. The reply to talk takes no memory.
+pub fn reply_text(
+    alloc: Global,
+    world: &World,
+    change: &Change,
+) -> Result<CowStr<'static, Global>, AllocError>
+    ensures { IfOk result (λ text. cow_str_bytes text ≡ reply_text world.now change.now) }
 {
-    match &change.deed {
-        Deed::Dig(target, doors) => dig_text(alloc, world, target, doors),
-        Deed::Make(_) => make_text(alloc, world),
-        Deed::Player(_) => welcome_text(alloc, change.actor),
-        Deed::Lock { object, key } => lock_text(alloc, *object, key),
-        Deed::Unlock { object } => about(alloc, "unlocked #", *object),
-        Deed::Move { thing, to } => move_text(alloc, world, change.actor, *thing, *to),
-        Deed::Walk { exit } => walk_text(alloc, world, *exit),
-        Deed::Cost { exit, cost } => about_two(alloc, "cost of #", *exit, " is ", *cost),
-        Deed::Rename { object, .. } => about(alloc, "renamed #", *object),
-        Deed::Recycle { object } => about(alloc, "recycled #", *object),
-        Deed::Say(_) => String::from_str(alloc, "said"),
-        Deed::Emote(_) => String::from_str(alloc, "done"),
-    }
+    let text = match &change.deed {
+        Deed::Dig(target, doors) => dig_text(alloc, world, target, doors)?,
+        Deed::Make(_) => make_text(alloc, world)?,
+        Deed::Player(_) => welcome_text(alloc, change.actor)?,
+        Deed::Lock { object, key } => lock_text(alloc, *object, key)?,
+        Deed::Unlock { object } => about(alloc, "unlocked #", *object)?,
+        Deed::Move { thing, to } => move_text(alloc, world, change.actor, *thing, *to)?,
+        Deed::Walk { exit } => walk_text(alloc, world, *exit)?,
+        Deed::Cost { exit, cost } => about_two(alloc, "cost of #", *exit, " is ", *cost)?,
+        Deed::Rename { object, .. } => about(alloc, "renamed #", *object)?,
+        Deed::Recycle { object } => about(alloc, "recycled #", *object)?,
+        Deed::Say(_) => return Ok(CowStr::Borrowed("said")),
+        Deed::Emote(_) => return Ok(CowStr::Borrowed("done")),
+    };
+    Ok(CowStr::Owned(text))
 }
 
 /// Returns the reply to a player who comes in: for [`Verdict::Become`](crate::Verdict), and for the change that makes a

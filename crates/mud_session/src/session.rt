@@ -127,11 +127,12 @@ impl Session {
             };
             taken = end;
         }
+        recycle(&mut self.terminal, &mut units);
         Ok(())
     }
 
-    // Consumes the bytes of a line, and plays the turns of the units that they complete. A line is freed before the
-    // next one is read, so that its memory is used again.
+    // Consumes the bytes of a line, and plays the turns of the units that they complete. The line before it gives its
+    // memory back first.
     fn feed_line<X: Threads + Wait + Sync, D: Door>(
         &mut self,
         rt: &X,
@@ -144,7 +145,7 @@ impl Session {
             → Fed D.takes_in earlier (front ++ bytes.now) start self.new begun (D.state door.new)) }
         ensures capacity { (D.state door.new).capacity ≡ (D.state door.old).capacity }
     {
-        units.clear();
+        recycle(&mut self.terminal, units);
         let Ok(()) = self.terminal.feed(bytes, units) else {
             return Err(AllocError);
         };
@@ -340,5 +341,17 @@ impl Session {
         ensures { OnOk result (self.new ≡ sends self.old bytes.now) }
     {
         self.out.extend_from_slice(bytes)
+    }
+}
+
+// Removes all units. The terminal uses the memory of their lines again.
+fn recycle(terminal: &mut Nvt, units: &mut Vec<Unit>)
+    ensures terminal { terminal.new ≡ terminal.old }
+    ensures units { units.new.items ≡ [] }
+{
+    while let Some(unit) = units.pop() {
+        if let Unit::Text(line) = unit {
+            terminal.reuse(line);
+        }
     }
 }

@@ -2,7 +2,6 @@
 use Rattle.std.proofs.Common.{◌≡◌, ℕ, List, [], ◌∷◌, ◌++◌, map, take, drop, Option, Some, None, option_map, refl, ap}
 use Rattle.std.proofs.Common.{◌∙◌, ◌<◌, ◌≤◌, length, get_or, take_all, arith}
 use Rattle.std.specs.List.{join_by, flat_map}
-use Rattle.std.proofs.Common.{Bool, true, false, not}
 use Rattle.std.proofs.lemmas.List.{append-nil, take-map, drop-map}
 use Rattle.mud_words.specs.declared.codes.TheConstants.{SPACE}
 use Rattle.mud_words.specs.declared.prepositions.Spot.{Spot}
@@ -26,11 +25,6 @@ joined_from f (y ∷ ys) x n text some first all is =
     ∙ ap (λ (l : List ℕ). l ++ flat_map (λ y. SPACE ∷ f y) (take n ys)) (ap f first)
     ∙ ap (λ zs. f y ++ flat_map (λ y. SPACE ∷ f y) zs) (take_all n ys all)
     ∙ joined_by f (y ∷ ys)
-
--- a test whose answer was no
-pub not_false : (b : Bool) → false ≡ not b → b ≡ true
-not_false true e = refl
-not_false false e = e
 
 round_is : {X : Type 0} (f : X → List ℕ) (verb rest direct indirect : List ℕ) (xs : List X) (spot : Spot)
     (o : Option Found) → Some spot ≡ option_map spot_of o → direct ≡ join_words (map f (take spot.start xs))

@@ -158,12 +158,18 @@ fn is_joined(text: &[u8], words: &[CowStr<'_, Global>]) -> bool
     rest.is_empty()
 }
 
-// Returns the text behind a word, if it begins with the word.
+// Returns the text behind a word, if it begins with the word. For words this short a loop is cheaper than a comparison
+// of slices.
 fn behind<'t>(text: &'t [u8], word: &[u8]) -> Option<&'t [u8]>
     ensures { IfSome result (λ rest. text.now ≡ word.now ++ rest.now) }
 {
-    if text.len() < word.len() || text[..word.len()] != word[..] {
+    if text.len() < word.len() {
         return None;
+    }
+    for at in 0..word.len() {
+        if text[at] != word[at] {
+            return None;
+        }
     }
     Some(&text[word.len()..])
 }

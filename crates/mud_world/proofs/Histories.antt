@@ -5,7 +5,7 @@ use Rattle.mud_world.specs.State.{State}
 use Rattle.mud_world.specs.Opening.{opening_state}
 use Rattle.mud_world.specs.Legal.{refusal, after}
 use Rattle.mud_world.specs.History.{world_from, world_of}
-use Rattle.mud_world.specs.inner.Fields.{step_or_same}
+use Rattle.mud_world.specs.History.{step_or_same}
 use Rattle.mud_world.specs.declared.change.Change.{Change}
 
 pub world_from-push : (w : State) (changes : List Change) (e : Change)

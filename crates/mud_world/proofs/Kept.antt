@@ -117,7 +117,7 @@ new-in_none a kept =
         → list_any (nat_eq a.next) (list_at l m) ≡ false
     in_none test l of m =
         ap (list_any (nat_eq a.next)) (of m)
-        ∙ listed (test m) a.next 0 a.next a.records.entries kept.sound.rising
+        ∙ listed (test m) a.next 0 a.next a.records kept.sound.rising
         ∙ ap (λ v. option_map_or (test m) v false) (next_missing (state_of a) kept.sound)
 
 module _ (a a' : Inside) (kept : IsKept a) where
@@ -125,10 +125,10 @@ module _ (a a' : Inside) (kept : IsKept a) where
   w = state_of a
 
   -- nothing changed
-  pub state-same : a'.next ≡ a.next → a'.records.entries ≡ a.records.entries → state_of a' ≡ w
+  pub state-same : a'.next ≡ a.next → a'.records ≡ a.records → state_of a' ≡ w
   state-same next same = λ i. record { objects = same i; next = next i }
 
-  pub kept-same : a'.next ≡ a.next → a'.records.entries ≡ a.records.entries → AreSameLinks a.links a'.links
+  pub kept-same : a'.next ≡ a.next → a'.records ≡ a.records → AreSameLinks a.links a'.links
       → AreSame a.askers a'.askers → HaveSameOwners a.owners a'.owners → IsKept a'
   kept-same next same links askers owners =
       let is = state-same next same in
@@ -143,7 +143,7 @@ module _ (a a' : Inside) (kept : IsKept a) where
 
   -- an object was added
   module _ (r : Record) (can : CanAdd w r) (next : a'.next ≡ a.next + 1)
-      (records : a'.records.entries ≡ a.records.entries ++ (a.next, r) ∷ []) where
+      (records : a'.records ≡ a.records ++ (a.next, r) ∷ []) where
     pub state-grown : state_of a' ≡ with_new w (r ∷ [])
     state-grown = λ i. record { objects = records i; next = next i }
 
@@ -175,7 +175,7 @@ module _ (a a' : Inside) (kept : IsKept a) where
 
   -- an object that no name finds was removed; the next number may differ
   module _ (n : ℕ) (r : Record) (at : record_at w n ≡ Some r)
-      (records : a'.records.entries ≡ remove_entry (nat_eq n) a.records.entries) where
+      (records : a'.records ≡ remove_entry (nat_eq n) a.records) where
     state-removed : state_of a' ≡ record (without_object w n) { next = a'.next }
     state-removed = λ i. record { objects = records i; next = a'.next }
 
@@ -208,10 +208,10 @@ module _ (a a' : Inside) (kept : IsKept a) where
 
   -- a record changed, but not its place, its ends and its names
   module _ (n : ℕ) (f : Record → Record) (r : Record) (at : record_at w n ≡ Some r) (next : a'.next ≡ a.next)
-      (records : a'.records.entries ≡ edit n f a.records.entries) where
+      (records : a'.records ≡ edit n f a.records) where
     pub state-edited : state_of a' ≡ with_record_changed w n f
     state-edited =
-        (λ i. record { objects = (records ∙ edited_by n f a.records.entries r at) i; next = next i })
+        (λ i. record { objects = (records ∙ edited_by n f a.records r at) i; next = next i })
         ∙ sym (changed_by w n f r at)
 
     -- the lists of a test that gives the same result for both records
@@ -247,7 +247,7 @@ module _ (a a' : Inside) (kept : IsKept a) where
 
   -- an object got another key, or none
   module _ (n : ℕ) (key : Option (Tree ℕ)) (r : Record) (at : record_at w n ≡ Some r) (next : a'.next ≡ a.next)
-      (records : a'.records.entries ≡ edit n (with_key key) a.records.entries) where
+      (records : a'.records ≡ edit n (with_key key) a.records) where
     pub kept-keyed : AreSameLinks a.links a'.links → AreRekeyed n r.key key a.askers a'.askers
         → HaveSameOwners a.owners a'.owners → IsSound (with_record_changed w n (with_key key)) → IsKept a'
     kept-keyed links askers owners sound =
@@ -271,7 +271,7 @@ module _ (a a' : Inside) (kept : IsKept a) where
 
   -- an object got other names
   module _ (n : ℕ) (names : List (List ℕ)) (r : Record) (at : record_at w n ≡ Some r) (next : a'.next ≡ a.next)
-      (records : a'.records.entries ≡ edit n (with_names names) a.records.entries) where
+      (records : a'.records ≡ edit n (with_names names) a.records) where
     pub kept-renamed : CanName w n names → AreSameLinks a.links a'.links → AreSame a.askers a'.askers
         → AreOwnersPassed (names_to_find r) (called_by r.kind names) n a.owners a'.owners
         → IsSound (with_record_changed w n (with_names names)) → IsKept a'
@@ -299,7 +299,7 @@ module _ (a a' : Inside) (kept : IsKept a) where
 
   -- an object got another place
   module _ (t q y : ℕ) (can : CanGo w t q y) (next : a'.next ≡ a.next)
-      (records : a'.records.entries ≡ edit t (placed_at y) a.records.entries) where
+      (records : a'.records ≡ edit t (placed_at y) a.records) where
     with_its_record : {P : Type 0} → ((r : Record) → record_at w t ≡ Some r → kind_place r.kind ≡ Some q → P) → P
     with_its_record f =
         record_cases (record_at w t)

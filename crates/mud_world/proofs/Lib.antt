@@ -1,6 +1,7 @@
 pub mod Marking
 pub mod Places
 pub mod Records
+pub mod Numbered
 pub mod KindLemmas
 pub mod Moving
 pub mod Begun

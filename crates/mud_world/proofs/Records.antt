@@ -138,18 +138,12 @@ list_all-set_value p n r old (e ∷ es) at same =
     (list_all-set_value p n r old es (sym (ap (λ b. cond b (Some e.1) (lookup (nat_eq n) es)) past) ∙ at) same))
 
 -- ---- a record after sorted ones
-behind-low : (low high k : ℕ) (v : Record) (es fs : List (ℕ × Record)) → IsRising low (es ++ (k, v) ∷ fs) high → low ≤ k
-behind-low low high k v [] fs rises = rises.0
-behind-low low high k v (e ∷ es) fs rises = let rest = behind-low (e.0 + 1) high k v es fs rises.1 in
-    omega (arith, rest, rises.0)
-
-pub behind-missing : (low high k : ℕ) (v : Record) (es fs : List (ℕ × Record)) → IsRising low (es ++ (k, v) ∷ fs) high
-    → lookup (nat_eq k) es ≡ None
-behind-missing low high k v [] fs rises = refl
-behind-missing low high k v (e ∷ es) fs rises =
-    let above = behind-low (e.0 + 1) high k v es fs rises.1 in
-    ap (λ b. cond b (Some e.1) (lookup (nat_eq k) es)) (ne_eqb k e.0 (λ same. omega (arith, above, same)))
-    ∙ behind-missing (e.0 + 1) high k v es fs rises.1
+-- the number above all others is no record's
+pub unused : (n : ℕ) (es : List (ℕ × Record)) → IsRising 0 es n → lookup (nat_eq n) es ≡ None
+unused n es rises =
+    record_cases (lookup (nat_eq n) es)
+    (λ e. e)
+    (λ r e. let below = (in_bounds 0 n n r es rises e).1 in absurd (omega (arith, below)))
 
 -- the record that was appended is removed again
 pub remove-last : (n : ℕ) (r : Record) (es : List (ℕ × Record)) → lookup (nat_eq n) es ≡ None

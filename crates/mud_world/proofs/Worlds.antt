@@ -6,7 +6,7 @@ use Rattle.mud_world.specs.Sound.{IsSound}
 use Rattle.mud_world.specs.Legal.{refusal, after}
 use Rattle.mud_world.specs.Laws.{WorldsAreSound}
 use Rattle.mud_world.specs.History.{world_from}
-use Rattle.mud_world.specs.inner.Fields.{step_or_same}
+use Rattle.mud_world.specs.History.{step_or_same}
 use Rattle.mud_world.specs.Opening.{opening_state}
 use Rattle.mud_world.specs.declared.change.Change.{Change}
 use Rattle.mud_world.specs.declared.refusal.Refusal.{Refusal}

@@ -8,3 +8,4 @@ pub mod Fields
 pub mod Maps
 pub mod Refusals
 pub mod Reach
+pub mod Slots

@@ -6,7 +6,8 @@ ghost use Rattle.mud_world.specs.Legal.{refusal, after};
 ghost use Rattle.mud_world.specs.inner.Fields.{with_place, with_key, with_names};
 ghost use Rattle.mud_world.specs.inner.CanGo.{CanGo, CanKey, CanName};
 
-use crate::maps::{forget, rekey, relocate_in, rename_in, set_cost, unkey};
+use crate::maps::{forget, rekey, relocate_in, rename_in, unkey};
+use crate::slots::Edit;
 use crate::world::World;
 use crate::{Change, Deed, Kind, Record};
 use mud_key::{Key, Name, Names};
@@ -70,7 +71,7 @@ impl World {
         ensures err { OnErr result (self.new ≡ self.old) }
     {
         let thing = Record {
-            names: names.copy(self.alloc)?,
+            names: names.copy()?,
             owner: actor,
             kind: Kind::Thing { place: actor },
             key: None,
@@ -103,7 +104,7 @@ impl World {
             ≡ after self.old (record { actor = actor; deed = Deed.Lock object key.now })) }
         ensures err { OnErr result (self.new ≡ self.old) }
     {
-        let key = key.copy(self.alloc)?;
+        let key = key.copy()?;
         self.set_key(object, Some(key))
     }
 
@@ -122,7 +123,7 @@ impl World {
         requires { refusal self.old (record { actor = actor; deed = Deed.Cost exit cost }) ≡ None }
         ensures { self.new ≡ after self.old (record { actor = actor; deed = Deed.Cost exit cost }) }
     {
-        set_cost(&mut self.records, exit, cost);
+        self.records.edit(exit, Edit::Cost(cost));
     }
 
     // Adds a player to the hall. The player owns itself.
@@ -160,7 +161,7 @@ impl World {
             ≡ after self.old (record { actor = actor; deed = Deed.Rename object names.now })) }
         ensures err { OnErr result (self.new ≡ self.old) }
     {
-        let names = names.copy(self.alloc)?;
+        let names = names.copy()?;
         self.set_names(object, names)
     }
 
@@ -170,7 +171,6 @@ impl World {
         ensures { self.new ≡ after self.old (record { actor = actor; deed = Deed.Recycle object }) }
     {
         forget(&mut self.records, &mut self.links, &mut self.askers, object);
-        self.indices.note(&self.records, self.next);
     }
 
     /// Applies a legal change (`after`). The only error is out of memory, and it leaves the world unchanged. New

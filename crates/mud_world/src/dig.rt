@@ -37,7 +37,7 @@ impl World {
         ensures err { OnErr result (self.new ≡ self.old) }
     {
         let room = Record {
-            names: names.copy(self.alloc)?,
+            names: names.copy()?,
             owner: actor,
             kind: Kind::Room,
             key: None,
@@ -59,7 +59,7 @@ impl World {
         ensures err { OnErr result (self.new ≡ self.old) }
     {
         let exit = Record {
-            names: names.copy(self.alloc)?,
+            names: names.copy()?,
             owner: actor,
             kind: Kind::Exit(Passage {
                 source,

@@ -34,7 +34,6 @@ mod askers;
 mod change;
 mod dig;
 mod holding;
-mod indices;
 mod judged;
 pub mod laws;
 mod legal;
@@ -48,6 +47,7 @@ mod questions;
 mod reach;
 mod record;
 mod refusal;
+mod slots;
 mod speech;
 mod world;
 

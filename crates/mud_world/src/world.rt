@@ -5,11 +5,10 @@ ghost use Rattle.mud_world.specs.State.{named_player, is_player, State, record_a
 ghost use Rattle.mud_world.specs.State.{contents_of, leaving_of, arriving_of};
 ghost use Rattle.mud_world.specs.Sound.{IsSound};
 
-use crate::indices::Indices;
 use crate::links::Links;
-use crate::maps::{copy_records, grow, record_at};
+use crate::maps::grow;
+use crate::slots::Slots;
 use crate::{Kind, Record};
-use indexmap::IndexMap;
 use mud_index::{Lists, Owners};
 use mud_key::{Names, NamesFault};
 use std::alloc::{AllocError, Global};
@@ -47,11 +46,10 @@ fn wizard_names(alloc: Global) -> Result<Names, AllocError>
 /// - Players have no key. Each key is within the limits of keys and nests at most 3.
 pub struct World {
     pub(crate) alloc: Global,
-    pub(crate) records: IndexMap<u32, Record>,
+    pub(crate) records: Slots,
     pub(crate) links: Links,
     pub(crate) askers: Lists,
     pub(crate) owners: Owners,
-    pub(crate) indices: Indices,
     pub(crate) next: u32,
 }
 
@@ -64,14 +62,12 @@ impl Drop for World {
             links,
             askers,
             owners,
-            indices,
             next: _,
         } = self;
         drop(records);
         drop(links);
         drop(askers);
         drop(owners);
-        drop(indices);
     }
 }
 
@@ -87,7 +83,7 @@ impl Model for World {
 
     ghost use Rattle.mud_world.specs.Memory.{IsKept};
 
-    ghost view = { λ a. record { objects = a.records.entries; next = a.next } };
+    ghost view = { λ a. record { objects = a.records; next = a.next } };
 
     ghost invariant = { IsKept };
 }
@@ -113,7 +109,7 @@ impl World {
             kind: Kind::Player { place: 0 },
             key: None,
         };
-        let mut records = IndexMap::new(alloc);
+        let mut records = Slots::new(alloc);
         let mut links = Links::new(alloc);
         let mut owners = Owners::new(alloc);
         grow(&mut records, &mut links, &mut owners, 0, hall)?;
@@ -124,7 +120,6 @@ impl World {
             links,
             askers: Lists::new(alloc),
             owners,
-            indices: Indices::new(alloc),
             next: 2,
         })
     }
@@ -134,7 +129,7 @@ impl World {
     pub fn get(&self, number: u32) -> Option<&Record>
         ensures { option_copied result ≡ record_at self.now number }
     {
-        record_at(&self.records, self.indices.of(number), number)
+        self.records.get(number)
     }
 
     /// Returns the number of the next new object, 2 to 8,192. At 8,192 the world is full.
@@ -202,18 +197,16 @@ impl World {
     pub fn copy(&self) -> Result<World, AllocError>
         ensures { IfOk result (λ w. w ≡ self.now) }
     {
-        let records = copy_records(&self.records, self.alloc)?;
+        let records = self.records.copy(self.alloc)?;
         let links = self.links.copy()?;
         let askers = self.askers.copy()?;
         let owners = self.owners.copy()?;
-        let indices = self.indices.copy()?;
         Ok(World {
             alloc: self.alloc,
             records,
             links,
             askers,
             owners,
-            indices,
             next: self.next,
         })
     }

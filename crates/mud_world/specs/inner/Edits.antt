@@ -12,11 +12,6 @@ use Rattle.mud_world.specs.declared.record.Kind.{Kind}
 use Rattle.mud_world.specs.declared.links.Links.{Links}
 use Rattle.mud_world.specs.Kinds.{kind_at, kind_costing, kind_place, kind_passage, is_player_kind}
 use Rattle.mud_world.specs.State.{is_number}
-use Rattle.mud_world.specs.Sound.{IsRising}
-
--- the records are sorted by number
-abbrev pub StandRising : List (ℕ × Record) → Type 0
-StandRising es = (high : ℕ) × IsRising 0 es high
 
 -- f applied to the record of n, if there is one
 abbrev pub edit : ℕ → (Record → Record) → List (ℕ × Record) → List (ℕ × Record)

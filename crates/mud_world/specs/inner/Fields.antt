@@ -1,6 +1,6 @@
 -- Parts of results, of conditions and of the invariant.
 use Rattle.std.specs.Prelude.{◌≡◌, ◌≢◌, ℕ, ◌+◌, Bool, false, not, ◌&&◌, nat_eq, nat_lt, List, Option, Some, None}
-use Rattle.std.specs.Prelude.{IfSome, IsTrue, is_none, if◌then◌else◌}
+use Rattle.std.specs.Prelude.{IfSome, IsTrue}
 use Rattle.std.specs.Option.{option_map_or}
 use Rattle.std.specs.List.{list_all}
 use Rattle.std.specs.Map.{set_value, remove_entry}
@@ -10,12 +10,10 @@ use Rattle.mud_key.specs.declared.codes.TheConstants.{SPACE, TILDE}
 use Rattle.mud_world.specs.declared.limits.TheConstants.{NUMBERS}
 use Rattle.mud_world.specs.declared.record.Kind.TheVariants.{Player}
 use Rattle.mud_world.specs.declared.record.Record.{Record}
-use Rattle.mud_world.specs.declared.change.Change.{Change}
 use Rattle.mud_world.specs.declared.change.Doors.{Doors}
 use Rattle.mud_world.specs.Kinds.{kind_at, kind_costing, is_player_kind}
 use Rattle.mud_world.specs.State.{State, record_at, place_of, is_number, source_of, shares}
 use Rattle.mud_world.specs.Results.{with_record_changed}
-use Rattle.mud_world.specs.Legal.{refusal, after}
 
 -- the world with record r for object n, if it exists
 abbrev pub with_record : State → ℕ → Record → State
@@ -74,10 +72,6 @@ AreBackNames back = IfSome back AreNames
 -- the names of the exits of a dig
 abbrev pub AreDoors : Option Doors → Type 0
 AreDoors doors = IfSome doors (λ d. AreNames d.out × AreBackNames d.back)
-
--- the world after a change; an illegal change has no effect
-abbrev pub step_or_same : State → Change → State
-step_or_same w e = if is_none (refusal w e) then after w e else w
 
 -- each byte is from 32 to 126
 abbrev pub is_printable : List ℕ → Bool

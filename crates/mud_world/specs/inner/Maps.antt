@@ -12,7 +12,7 @@ use Rattle.mud_world.specs.inner.Edits.{asked_by, names_to_find}
 
 -- the records by number, without the lists derived from them
 abbrev pub state_of : Inside → State
-state_of a = record { objects = a.records.entries; next = a.next }
+state_of a = record { objects = a.records; next = a.next }
 
 -- the object of the record lies in n
 abbrev pub lies_in : ℕ → Record → Bool

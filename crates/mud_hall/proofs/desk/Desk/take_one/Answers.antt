@@ -1,16 +1,19 @@
-use Rattle.std.proofs.Common.{◌≡◌, ◌+◌, ◌<◌, ℕ, List, ◌++◌, length, map, slice_get, None, Some}
+use Rattle.std.proofs.Common.{◌≡◌, ◌+◌, ◌<◌, ℕ, List, ◌++◌, length, map, slice_get, take, None, Some}
 use Rattle.std.proofs.Common.{refl, sym, ap, ◌∙◌, subst}
-use Rattle.std.specs.Prelude.{string_bytes}
+use Rattle.std.specs.Prelude.{string_bytes, IfSome}
 use Rattle.std.specs.Option.{option_to_list}
 use Rattle.mud_chron.specs.Entry.{Entry}
 use Rattle.mud_row.specs.Known.{Standing}
+use Rattle.mud_chron.specs.Replay.{world_at}
+use Rattle.mud_roads.specs.Passable.{IsTraveller}
+use Rattle.mud_world.specs.State.{State}
+use Rattle.mud_world.specs.History.{step_or_same}
 use Rattle.mud_hall.specs.Desk.{IsHeld}
 use Rattle.mud_hall.proofs.Notices.{stepped, marked, after_step}
-use Rattle.mud_hall.proofs.Talk.{IsIdle, Applies, known-next, held-next}
+use Rattle.mud_hall.proofs.Applied.{Applies, next-world, held-next}
+use Rattle.mud_hall.proofs.Worlds.{world-sound}
 use Rattle.mud_hall.proofs.desk.Desk.take_one.Given.{Over}
 use Rattle.mud_hall.proofs.desk.Desk.take_one.Goals as goal
-use Rattle.mud_hall.proofs.desk.Desk.take_one.Goals.{then-not-is_talk+in-Some-1, then-not-is_talk+in-None-1}
-use Rattle.mud_hall.proofs.desk.Desk.take_one.Goals.{else-not-is_talk}
 
 -- the step applied the entry that was peeked at
 applies : (g : Over) (c : goal.After-push_line g)
@@ -56,14 +59,12 @@ invariant_of-self-2 g c =
     let was : Standing = d.replica.value in
     let new : Standing = c.step.new.self in
     let e : Entry = c.in-Some.entry.now in
-    let forgotten : IsHeld j.cells j.loaded d.number d.player None new =
-    held-next j.cells j.loaded d.number d.player d.traveller None was new e c.self.invariant (applies g c) tt in
-    elim c.if-not-is_talk.branch [
-      | then-not-is_talk+in-Some-1 w ↦ rw w.self-inside-is forgotten
-      | then-not-is_talk+in-None-1 w ↦ rw w.self-inside-is forgotten
-      | else-not-is_talk w ↦
-          let idle : IsIdle e.change = subst IsIdle c.change.ensures.change (w.if-not-is_talk.ensures refl) in
-          rw w.self-inside-is (held-next j.cells j.loaded d.number d.player d.traveller d.traveller was new e
-          c.self.invariant (applies g c)
-          (known-next d.traveller was new e (applies g c) idle c.self.invariant.known))
-    ]
+    let is = applies g c in
+    let before : State = world_at was.list was.at in
+    let after : c.world-2.result.now ≡ step_or_same before c.change.result.now =
+    c.world-2.ensures ∙ next-world was new e is ∙ ap (step_or_same before) (sym c.change.ensures.change) in
+    let known : IfSome c.follow_change.new.traveller (IsTraveller (world_at new.list new.at)) =
+    subst (λ (w : State). IfSome c.follow_change.new.traveller (IsTraveller w)) c.world-2.ensures
+    (c.follow_change.ensures before (world-sound (take was.at was.list)) c.self.invariant.known after) in
+    held-next j.cells j.loaded d.number d.player d.traveller c.follow_change.new.traveller was new e
+    c.self.invariant is known

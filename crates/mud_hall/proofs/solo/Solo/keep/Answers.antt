@@ -20,10 +20,8 @@ use Rattle.mud_hall.proofs.Notices.{state_eq}
 use Rattle.mud_hall.proofs.Worlds.{world-sound}
 use Rattle.mud_hall.proofs.Storing.{actor-plays, actor-seated}
 use Rattle.mud_hall.proofs.Lists.{versions-snoc}
-use Rattle.mud_hall.proofs.Talk.{known-there}
+use Rattle.mud_world.proofs.Worlds.{stepped-legal}
 use Rattle.mud_hall.proofs.solo.Solo.keep.Goals as goal
-use Rattle.mud_hall.proofs.solo.Solo.keep.Goals.{then-not-is_talk+in-Some-1, then-not-is_talk+in-None-1}
-use Rattle.mud_hall.proofs.solo.Solo.keep.Goals.{else-not-is_talk}
 
 pub new-requires : goal.new-requires
 new-requires c =
@@ -33,50 +31,21 @@ new-requires c =
     (sym c.self.view_is) c.requires.lawful.0 in
     legal_is_spellable (world_after h) 1 c.args.change (world-sound h) legal (omega arith) (omega arith)
 
--- the desk after the change in its world: it may have forgotten its traveller
-record IsLeft (was : Inside) (h : List Entry) (w : State) (now : Inside) : Type 0 where
-  capacity : now.capacity ≡ was.capacity
-  history : now.history.items ≡ h
-  world : now.world ≡ w
-  known : IfSome now.traveller (IsTraveller w)
-
-is_left : (c : goal.After-push_reserved)
-    → IsLeft c.self.inside c.apply.new.history.items c.apply.new.world c.if-not-is_talk.self-inside
-is_left c =
-    let P : Inside → Type 0 = IsLeft c.self.inside c.apply.new.history.items c.apply.new.world in
-    elim c.if-not-is_talk.branch [
-      | then-not-is_talk+in-Some-1 w ↦
-          subst P (sym w.self-inside-is) (record { capacity = refl; history = refl; world = refl; known = tt })
-      | then-not-is_talk+in-None-1 w ↦
-          subst P (sym w.self-inside-is) (record { capacity = refl; history = refl; world = refl; known = tt })
-      | else-not-is_talk w ↦
-          let same : c.apply.new.world ≡ c.self.inside.world =
-          c.in_ok-apply.ensures.ok ∙ w.if-not-is_talk.ensures refl c.self.inside.world in
-          subst P (sym w.self-inside-is) (record {
-            capacity = refl;
-            history = refl;
-            world = refl;
-            known = known-there c.self.inside.traveller c.self.inside.world c.apply.new.world same
-                c.self.invariant.known;
-          })
-    ]
-
 pub invariant_of-self-2 : goal.invariant_of-self-2
 invariant_of-self-2 c =
-    let is = is_left c in
     let h : List Entry = c.self.inside.history.items in
     let e = c.args.change in
     let entry : Entry = record { desk = 1; change = e } in
     let made : c.push_reserved.new.self.items ≡ h ++ entry ∷ [] = c.push_reserved.ensures.items
-    ∙ (ap (λ xs. xs ++ c.new.result ∷ []) (is.history ∙ c.apply.ensures.items)
+    ∙ (ap (λ xs. xs ++ c.new.result ∷ []) c.apply.ensures.items
     ∙ ap (λ (x : Entry). h ++ x ∷ []) c.new.ensures) in
     let legal : refusal (world_after h) e ≡ None = subst (λ (v : Alone). refusal (world_after v.state.seen) e ≡ None)
     (sym c.self.view_is) c.requires.lawful.0 in
     let actor : IsActor (world_after h) (Some c.self.inside.player) e =
     subst (λ (v : Alone). IsActor (world_after v.state.seen) v.state.player e) (sym c.self.view_is)
     c.requires.lawful.1 in
-    let left : c.if-not-is_talk.self-inside.world ≡ after (world_after h) e = is.world ∙ c.in_ok-apply.ensures.ok
-    ∙ ap (λ (w : State). after w e) c.self.invariant.world in
+    let left : c.apply.new.world ≡ after (world_after h) e =
+    c.in_ok-apply.ensures.ok ∙ ap (λ (w : State). after w e) c.self.invariant.world in
     let seated : IsTrue (is_player (world_after h) c.self.inside.player) =
     subst (λ (w : State). IsTrue
     (is_player w c.self.inside.player)) c.self.invariant.world c.self.invariant.plays in
@@ -85,22 +54,22 @@ invariant_of-self-2 c =
     record {
       world = left ∙ (sym (world_of-legal (changes_of h) e legal)
           ∙ (ap world_of (sym (map_push (λ (x : Entry). x.change) h entry)) ∙ ap world_after (sym made)));
-      room = omega (arith, ap length made, length-append h (entry ∷ []), list, capacity, is.capacity, c.requires.room);
-      few = omega (arith, is.capacity, c.self.invariant.few);
+      room = omega (arith, ap length made, length-append h (entry ∷ []), list, capacity, c.requires.room);
+      few = omega (arith, c.self.invariant.few);
       plays = subst (λ (w : State). IsTrue (is_player w e.actor)) (sym left)
           (actor-plays (world_after h) h (Some c.self.inside.player) e refl legal actor seated);
-      known = known-there c.if-not-is_talk.self-inside.traveller c.apply.new.world c.if-not-is_talk.self-inside.world
-          is.world is.known;
+      known = c.follow_change.ensures (world_after h) (world-sound h)
+          (subst (λ (w : State). IfSome c.self.inside.traveller (IsTraveller w)) c.self.invariant.world
+          c.self.invariant.known) (left ∙ sym (stepped-legal (world_after h) e legal));
     }
 
 pub returns-clause-ok : goal.returns-clause-ok
 returns-clause-ok c =
-    let is = is_left c in
     let h : List Entry = c.self.inside.history.items in
     let e = c.args.change in
     let entry : Entry = record { desk = 1; change = e } in
     let made : c.push_reserved.new.self.items ≡ h ++ entry ∷ [] = c.push_reserved.ensures.items
-    ∙ (ap (λ xs. xs ++ c.new.result ∷ []) (is.history ∙ c.apply.ensures.items)
+    ∙ (ap (λ xs. xs ++ c.new.result ∷ []) c.apply.ensures.items
     ∙ ap (λ (x : Entry). h ++ x ∷ []) c.new.ensures) in
     let actor : IsActor (world_after h) (Some c.self.inside.player) e =
     subst (λ (v : Alone). IsActor (world_after v.state.seen) v.state.player e) (sym c.self.view_is)

@@ -24,20 +24,22 @@ loop-byte-preserved c =
 
 -- ---- the names are complete
 
-taken : (c : goal.In-Some-2) → IsNamesText c.as_bytes-byte-items.result.now (texts_of c.in-Some-2.texts)
-taken c =
-    names_sound c.as_bytes-byte-items.result.now (stand_of c.loop-byte.reader) (texts_of c.in-Some-2.texts)
+pub shared-requires : goal.shared-requires
+shared-requires c =
+    are_names c.as_bytes-byte-items.result.now _
+    (names_sound c.as_bytes-byte-items.result.now (stand_of c.loop-byte.reader) (texts_of c.in-Some-2.texts)
     (name_run_end c.as_bytes-byte-items.result.now c.loop-byte.byte-index _ c.loop-byte-test.false
     c.loop-byte.invariant)
-    (sym c.in_ok-texts.ensures ∙ ap names_of c.in-Some-2.is)
+    (sym c.in_ok-texts.ensures ∙ ap names_of c.in-Some-2.is))
 
-pub invariant_of-result : goal.invariant_of-result
-invariant_of-result c = are_names c.as_bytes-byte-items.result.now _ (taken c)
-
-pub returns-in-Some-2 : goal.returns-in-Some-2
-returns-in-Some-2 c = record {
-  reads = subst (λ t. IsNamesText t (texts_of c.in-Some-2.texts)) c.as_bytes-byte-items.ensures.value
-      (taken c);
+pub returns-in_ok-shared-in-Some-2 : goal.returns-in_ok-shared-in-Some-2
+returns-in_ok-shared-in-Some-2 c = record {
+  reads = subst (IsNamesText c.args.text.now) (sym c.in_ok-shared-in-Some-2.ensures)
+      (subst (λ t. IsNamesText t (texts_of c.in-Some-2.texts)) c.as_bytes-byte-items.ensures.value
+      (names_sound c.as_bytes-byte-items.result.now (stand_of c.loop-byte.reader) (texts_of c.in-Some-2.texts)
+      (name_run_end c.as_bytes-byte-items.result.now c.loop-byte.byte-index _ c.loop-byte-test.false
+      c.loop-byte.invariant)
+      (sym c.in_ok-texts.ensures ∙ ap names_of c.in-Some-2.is)));
 }
 
 -- ---- the text does not end with a name

@@ -1,5 +1,5 @@
 use Rattle.std.proofs.Common.{arith, sym, ◌∙◌, ap, ◌≡◌, ◌+◌, Some, slice_get, length}
-use Rattle.mud_world.specs.inner.Fields.{step_or_same}
+use Rattle.mud_world.specs.History.{step_or_same}
 use Rattle.mud_row.proofs.Worlds.{world_at-next}
 use Rattle.mud_row.proofs.replica.Replica.step.Goals as goal
 

@@ -1,6 +1,7 @@
 use Rattle.std.proofs.Common.{◌++◌, refl, arith, sym, ap, subst, ◌∙◌}
 use Rattle.std.proofs.lemmas.List.{take_all}
 use Rattle.mud_nvt.specs.UnitViews.{all_shown}
+use Rattle.mud_nvt.specs.Held.{Held}
 use Rattle.mud_nvt.specs.History.{StandsAfter}
 use Rattle.mud_session.specs.State.{SessionState}
 use Rattle.mud_session.proofs.Taking.{SoFar-start, SoFar-more, SoFar-terminal, Fed-more, same_terminal}
@@ -27,10 +28,11 @@ loop-unit-preserved g c = record {
 pub returns-clause-fed : goal.returns-clause-fed
 returns-clause-fed g c = λ earlier front start begun fed.
     let took = c.in-Ok.ensures.ok in
-    let was = subst (λ (s : SessionState). StandsAfter s.terminal (earlier ++ front)) (sym c.self.view_is) fed.stands in
+    let was = subst (λ (h : Held). StandsAfter h (earlier ++ front)) (sym c.recycle.ensures.terminal)
+    (subst (λ (s : SessionState). StandsAfter s.terminal (earlier ++ front)) (sym c.self.view_is) fed.stands) in
     let grows = took.grows (earlier ++ front) was in
     let given = ap all_shown (take_all c.loop-unit.unit-index c.as_slice-unit-items.result.now (omega arith)
-    ∙ c.as_slice-unit-items.ensures.value) ∙ grows.1 ∙ ap (λ l. all_shown l ++ grows.0) c.clear.ensures.items in
+    ∙ c.as_slice-unit-items.ensures.value) ∙ grows.1 ∙ ap (λ l. all_shown l ++ grows.0) c.recycle.ensures.units in
     Fed-more g.D.Door.takes_in earlier front c.args.bytes.now start c.args.self.now c.loop-unit.self begun _ _ grows.0
     fed (subst (λ h. StandsAfter h ((earlier ++ front) ++ c.args.bytes.now)) (sym c.loop-unit.invariant.terminal)
     (took.stands (earlier ++ front) was)) grows.2

@@ -203,7 +203,7 @@ impl Client {
     fn upgrade(&mut self, port: u16) -> io::Result<()> {
         let origin = format!("http://127.0.0.1:{port}");
         let upgrade = "Upgrade: websocket\r\nConnection: Upgrade\r\nSec-WebSocket-Version: 13";
-        let own = format!("Origin: {origin}\r\nSec-WebSocket-Key: {KEY}");
+        let own = format!("Host: 127.0.0.1:{port}\r\nOrigin: {origin}\r\nSec-WebSocket-Key: {KEY}");
         let head = format!("GET /play HTTP/1.1\r\n{upgrade}\r\n{own}\r\n\r\n");
         self.stream.write_all(head.as_bytes())?;
         let (mut answer, mut byte) = (Vec::new(), [0]);

@@ -1,9 +1,11 @@
 """The servers under measurement, and their clients (load.rs)."""
 import os
+import resource
 import shutil
 import socket
 import subprocess
 import sys
+import tempfile
 import time
 from typing import NamedTuple
 
@@ -13,6 +15,8 @@ from harness.server import Client, Server
 from harness.web import WebServer
 
 SERVE = os.environ.get("MUD_SERVE", f"{HERE}/../crates/mud_serve/out/mud_serve")
+# A folder in memory: the fastest possible disk.
+MEMORY = "/dev/shm"
 GAME, BINARIES = "/usr/share/tinymux/game", "/usr/lib/tinymux/game/bin"
 SETTINGS = """
 command_quota_max 1000000
@@ -24,12 +28,14 @@ OPENING = [b"connect wizard potrzebie", b"@teleport me=#0", b"@dig Other=north,s
 
 
 class Played(NamedTuple):
-    """The result of a play: the number of answers, the elapsed seconds and those of processor time, the lines read and
-    the notices of talk among them. Then come the 50th and 99th percentile of replies and notices, in milliseconds."""
+    """The result of a play: the number of answers, and the seconds. Then come the processor time of the server and of
+    the clients, the lines read, and the notices of talk among them. The last two have the 50th and 99th percentile of
+    replies and of notices, in milliseconds."""
 
     answers: float
     seconds: float
     took: float
+    spent: float
     read: float
     notices: float
     replies: tuple
@@ -42,8 +48,20 @@ class Played(NamedTuple):
 
     @property
     def cost(self):
-        """Returns microseconds of processor time an answer."""
+        """Returns microseconds of processor time of the server an answer."""
         return self.took / self.answers * 1e6
+
+    @property
+    def own_cost(self):
+        """Returns microseconds of processor time of the clients an answer. They have one thread, so this bounds the
+        answers a second of any server."""
+        return self.spent / self.answers * 1e6
+
+
+def spent_by_children():
+    """Returns the seconds of processor time of the ended programs that this one began."""
+    used = resource.getrusage(resource.RUSAGE_CHILDREN)
+    return used.ru_utime + used.ru_stime
 
 
 def processor_time(pid):
@@ -68,12 +86,12 @@ def built_load(folder):
 
 def played(name, load, pid, port, clients, lines):
     """Lets this many clients send this many lines each."""
-    before = processor_time(pid)
+    before, own_before = processor_time(pid), spent_by_children()
     words = [load, str(port), str(clients), str(lines), name]
     said = subprocess.run(words, stdout=subprocess.PIPE, check=True, text=True).stdout
-    took = processor_time(pid) - before
+    took, spent = processor_time(pid) - before, spent_by_children() - own_before
     (answers, seconds, read, notices), replies, told = (map(float, line.split()) for line in said.splitlines())
-    return Played(answers, seconds, took, read, notices, tuple(replies), tuple(told))
+    return Played(answers, seconds, took, spent, read, notices, tuple(replies), tuple(told))
 
 
 def build_rooms(server):
@@ -90,6 +108,12 @@ def played_here(load, clients, lines, words, program=SERVE, environment=None):
     with Server(program, words, environment) as server:
         build_rooms(server)
         return played("seamountcup", load, server.process.pid, server.port, clients, lines)
+
+
+def journaled(folder, load, clients, lines, words=(), environment=None):
+    """Plays with this server, which keeps a new journal in a new folder."""
+    with tempfile.TemporaryDirectory(dir=folder) as place:
+        return played_here(load, clients, lines, ["--journal", f"{place}/journal", *words], environment=environment)
 
 
 def played_on_web(load, clients, lines):

@@ -1,4 +1,4 @@
-// Delays each fdatasync of the program that it is preloaded into by SYNC_MILLISECONDS.
+// Delays each fdatasync of the program that it is preloaded into by SYNC_MICROSECONDS.
 
 #define _GNU_SOURCE
 #include <dlfcn.h>
@@ -7,9 +7,9 @@
 
 int fdatasync(int file) {
     int (*real_sync)(int) = (int (*)(int))dlsym(RTLD_NEXT, "fdatasync");
-    const char *text = getenv("SYNC_MILLISECONDS");
+    const char *text = getenv("SYNC_MICROSECONDS");
     long more = text == NULL ? 0 : strtol(text, NULL, 10);
-    struct timespec rest = {more / 1000, more % 1000 * 1000000};
+    struct timespec rest = {more / 1000000, more % 1000000 * 1000};
     int status = real_sync(file);
     nanosleep(&rest, NULL);
     return status;

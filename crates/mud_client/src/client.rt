@@ -22,14 +22,22 @@ use std::marker::Model;
 use std::sync::Wait;
 use std::thread::Threads;
 
-/// A session at its desk, the framing of its bytes, and the typed text that waits for an answer. Unless the client has
-/// ended, its output is a prefix of its greeting and the text of the turns played at its desks, framed.
+/// The parts of a client that name no hall: the framing of its bytes, the typed text that waits for an answer, and its
+/// session.
 #[derive(Drop)]
-pub struct Client<J: HallName> {
-    pub(crate) alloc: Global,
+pub(crate) struct Link {
     pub(crate) framing: Framing,
     pub(crate) waiting: Vec<u8>,
     pub(crate) session: Session,
+}
+
+/// A session at its desk, the framing of its bytes, and the typed text that waits for an answer. Unless the client has
+/// ended, its output is a prefix of its greeting and the text of the turns played at its desks, framed. All but the
+/// desk is boxed, so that a client is cheap to move.
+#[derive(Drop)]
+pub struct Client<J: HallName> {
+    pub(crate) alloc: Global,
+    pub(crate) link: Box<Link>,
     pub(crate) desk: Desk<J>,
     pub(crate) has_ended: bool,
 }
@@ -44,10 +52,11 @@ impl<J: HallName> Model for Client<J> {
 
     ghost coded = { Prim.hlevel (codes, coded_number_tree) };
 
-    ghost view = { λ c. state_of (length J.cells) c.framing c.waiting.items c.session c.desk.state c.has_ended };
+    ghost view = { λ c. state_of (length J.cells) c.link.value.framing c.link.value.waiting.items c.link.value.session
+        c.desk.state c.has_ended };
 
-    ghost invariant = { λ c. ∥ (c.has_ended ≡ false
-        → IsSound (state_of (length J.cells) c.framing c.waiting.items c.session c.desk.state c.has_ended)) ∥₁ };
+    ghost invariant = { λ c. ∥ (c.has_ended ≡ false → IsSound (state_of (length J.cells) c.link.value.framing
+        c.link.value.waiting.items c.link.value.session c.desk.state c.has_ended)) ∥₁ };
 }
 
 impl<J: HallName> Client<J> {
@@ -69,13 +78,19 @@ impl<J: HallName> Client<J> {
         let Ok(session) = Session::new(alloc, true) else {
             return Err(desk);
         };
+        let link = Link {
+            framing,
+            waiting: Vec::new(alloc),
+            session,
+        };
+        let Ok(link) = Box::new(alloc, link) else {
+            return Err(desk);
+        };
         let mut desk = desk;
         desk.guest();
         Ok(Client {
             alloc,
-            framing,
-            waiting: Vec::new(alloc),
-            session,
+            link,
             desk,
             has_ended: false,
         })
@@ -106,9 +121,8 @@ impl<J: HallName> Client<J> {
             return client.refuse(before, End::Earlier);
         }
         let mut replies = Vec::new(client.alloc);
-        let read = client
-            .framing
-            .read(bytes, &mut client.waiting, &mut replies);
+        let link = &mut *client.link;
+        let read = link.framing.read(bytes, &mut link.waiting, &mut replies);
         if let Err(fault) = read {
             client.has_ended = true;
             return client.cut_off(rt, hall, workers, before, replies, fault);
@@ -155,6 +169,13 @@ impl<J: HallName> Client<J> {
         self.desk.ask(hall, &said).ok()
     }
 
+    /// Takes the memory of an output that was sent, and uses it for the output to come, like [`Session::reuse`].
+    pub fn reuse(&mut self, sent: Vec<u8>)
+        ensures { self.new ≡ self.old }
+    {
+        self.link.session.reuse(sent);
+    }
+
     /// Returns a line of the server's own, framed for the other side. It is no output of the session. The text is empty
     /// if an allocation fails, or the web socket is closed.
     pub fn announce(&mut self, line: &str) -> Vec<u8>
@@ -162,7 +183,7 @@ impl<J: HallName> Client<J> {
         ensures same { self.new ≡ self.old }
     {
         let mut text = Vec::new(self.alloc);
-        self.framing.say_last(line, &mut text);
+        self.link.framing.say_last(line, &mut text);
         text
     }
 
@@ -174,8 +195,9 @@ impl<J: HallName> Client<J> {
         let mut client = self;
         client.has_ended = true;
         let mut text = Vec::new(client.alloc);
-        client.framing.say_last(line, &mut text);
-        client.framing.close(ending, &mut text);
+        let link = &mut *client.link;
+        link.framing.say_last(line, &mut text);
+        link.framing.close(ending, &mut text);
         (client, text)
     }
 

@@ -25,11 +25,11 @@ impl Framing {
         Framing::Telnet
     }
 
-    /// Returns the framing of a web socket in its initial state.
-    pub fn web(alloc: Global) -> Framing
-        ensures { IsNew result }
+    /// Returns the framing of a web socket in its initial state. The only error is out of memory.
+    pub fn web(alloc: Global) -> Result<Framing, AllocError>
+        ensures { IfOk result IsNew }
     {
-        Framing::Web(Channel::new(alloc))
+        Ok(Framing::Web(Channel::new(alloc)?))
     }
 
     // Consumes input: appends the typed text to `typed`, and the protocol's replies to `replies`.

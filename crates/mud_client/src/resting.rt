@@ -7,10 +7,8 @@ ghost use Rattle.mud_session.specs.Talks.{Start, next_start};
 ghost use Rattle.mud_client.specs.Client.{ClientState, StandsFrom};
 ghost use Rattle.mud_client.specs.Resting.{at_rest, IsLast};
 
-use crate::client::Client;
-use crate::framing::Framing;
+use crate::client::{Client, Link};
 use mud_hall::{Desk, Hall, HallName};
-use mud_session::Session;
 use mud_web::Ending;
 use std::alloc::Global;
 use std::marker::Model;
@@ -21,9 +19,7 @@ use std::sync::Wait;
 #[derive(Drop)]
 pub struct RestingClient {
     alloc: Global,
-    framing: Framing,
-    waiting: Vec<u8>,
-    session: Session,
+    link: Box<Link>,
     player: Option<u32>,
     has_ended: bool,
 }
@@ -37,9 +33,11 @@ impl Model for RestingClient {
 
     ghost coded = { Prim.hlevel (codes, coded_number_tree) };
 
-    ghost view = { λ r. resting_of r.framing r.waiting.items r.session r.player r.has_ended };
+    ghost view = { λ r. resting_of r.link.value.framing r.link.value.waiting.items r.link.value.session r.player
+        r.has_ended };
 
-    ghost invariant = { λ r. IsAtRest (resting_of r.framing r.waiting.items r.session r.player r.has_ended) };
+    ghost invariant = { λ r. IsAtRest (resting_of r.link.value.framing r.link.value.waiting.items r.link.value.session
+        r.player r.has_ended) };
 }
 
 impl RestingClient {
@@ -47,10 +45,11 @@ impl RestingClient {
     pub fn part(self, line: &str, ending: Option<Ending>) -> Vec<u8>
         ensures { IsLast line.now ending self.framing result.items }
     {
-        let mut framing = self.framing;
+        let mut boxed = self.link;
         let mut text = Vec::new(self.alloc);
-        framing.say_last(line, &mut text);
-        framing.close(ending, &mut text);
+        let link = &mut *boxed;
+        link.framing.say_last(line, &mut text);
+        link.framing.close(ending, &mut text);
         text
     }
 }
@@ -64,14 +63,12 @@ impl<J: HallName> Client<J> {
         ensures desk { IfOk result (λ r. r.1.state ≡ as_guest self.desk) }
         ensures err { IfErr result (λ back. (back ≡ self) × (self.session.out ≢ [])) }
     {
-        if !self.session.is_silent() {
+        if !self.link.session.is_silent() {
             return Err(self);
         }
         let Client {
             alloc,
-            framing,
-            waiting,
-            session,
+            link,
             mut desk,
             has_ended,
         } = self;
@@ -79,9 +76,7 @@ impl<J: HallName> Client<J> {
         desk.guest();
         let resting = RestingClient {
             alloc,
-            framing,
-            waiting,
-            session,
+            link,
             player,
             has_ended,
         };
@@ -104,9 +99,7 @@ impl<J: HallName> Client<J> {
     {
         let RestingClient {
             alloc,
-            framing,
-            waiting,
-            session,
+            link,
             player,
             has_ended,
         } = resting;
@@ -114,9 +107,7 @@ impl<J: HallName> Client<J> {
         let sits = hall.sit(rt, &mut desk, player);
         let client = Client {
             alloc,
-            framing,
-            waiting,
-            session,
+            link,
             desk,
             has_ended,
         };

@@ -32,28 +32,27 @@ impl<J: HallName> Client<J> {
     {
         let Client {
             alloc,
-            framing,
-            mut waiting,
-            mut session,
+            mut link,
             desk,
             has_ended,
         } = self;
-        let end = waiting
+        let parts = &mut *link;
+        let end = parts
+            .waiting
             .iter()
             .position(|byte| matches!(*byte, b'\r' | b'\n'));
         let count = match end {
             Some(end) => end + 1,
-            None => waiting.len(),
+            None => parts.waiting.len(),
         };
         let mut seat = Seat::new(hall, desk, workers);
-        let fed = session.feed(rt, &mut seat, &waiting[..count]);
-        drop_front(&mut waiting, count);
-        let has_ended = has_ended || session.ended();
+        let fed = parts.session.feed(rt, &mut seat, &parts.waiting[..count]);
+        drop_front(&mut parts.waiting, count);
+        let is_over = parts.session.ended();
+        let has_ended = has_ended || is_over;
         let client = Client {
             alloc,
-            framing,
-            waiting,
-            session,
+            link,
             desk: seat.into_desk(),
             has_ended,
         };
@@ -76,8 +75,8 @@ impl<J: HallName> Client<J> {
         ensures { IfOk result (IsFedAll self) }
     {
         let mut client = self;
-        while !client.waiting.is_empty() && !client.session.ended() {
-            let _ = client.session.take_out();
+        while !client.link.waiting.is_empty() && !client.link.session.ended() {
+            let _ = client.link.session.take_out();
             let (after, _) = client.feed_line(rt, hall, workers)?;
             client = after;
         }
@@ -98,19 +97,16 @@ impl<J: HallName> Client<J> {
     {
         let Client {
             alloc,
-            framing,
-            waiting,
-            mut session,
+            mut link,
             desk,
             ..
         } = self;
         let mut seat = Seat::up_to(hall, desk, workers, most);
-        let looked = session.nudge(&mut seat);
+        let parts = &mut *link;
+        let looked = parts.session.nudge(&mut seat);
         let client = Client {
             alloc,
-            framing,
-            waiting,
-            session,
+            link,
             desk: seat.into_desk(),
             has_ended: looked.is_err(),
         };
@@ -141,7 +137,7 @@ impl<J: HallName> Client<J> {
             text,
             end,
             has_line,
-            has_more: end.is_none() && !client.waiting.is_empty(),
+            has_more: end.is_none() && !client.link.waiting.is_empty(),
             accepted: if client.desk.accepted_count() > before {
                 Some(client.desk.seen() as usize)
             } else {
@@ -171,8 +167,9 @@ impl<J: HallName> Client<J> {
         ensures reports { Reports before result.0 (output_of result.1) }
     {
         let mut client = self;
-        let said = client.session.take_out();
-        match client.framing.frame(client.alloc, said) {
+        let link = &mut *client.link;
+        let said = link.session.take_out();
+        match link.framing.frame(client.alloc, said) {
             Ok(bytes) => {
                 let text = Held::new(bytes, client.desk.seen() as usize);
                 let end = if client.has_ended {

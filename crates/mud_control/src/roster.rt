@@ -44,6 +44,9 @@ pub struct Row {
 #[derive(Drop)]
 pub struct Roster {
     list: Vec<Mutex<Option<Member>>>,
+    // The number of places up to the last one that ever had a session. It is set before a session enters, so a change
+    // that a session has not seen when it enters wakes it.
+    used: Mutex<usize>,
 }
 
 impl Member {
@@ -97,11 +100,26 @@ impl Roster {
         for _ in 0..places {
             list.push(Mutex::new(None))?;
         }
-        Ok(Roster { list })
+        Ok(Roster {
+            list,
+            used: Mutex::new(0),
+        })
+    }
+
+    // Counts this place as used.
+    fn use_place<R: Wait>(&self, rt: &R, at: usize) {
+        let mut used = self.used.lock(rt);
+        *used = (*used).max(at.saturating_add(1));
+    }
+
+    // Returns the number of places up to the last one that ever had a session.
+    fn used<R: Wait>(&self, rt: &R) -> usize {
+        *self.used.lock(rt)
     }
 
     /// Adds a session at a place.
     pub fn enter<R: Wait>(&self, rt: &R, at: usize, new: Member) {
+        self.use_place(rt, at);
         if let Some(place) = self.list.get(at) {
             *place.lock(rt) = Some(new);
         }
@@ -136,7 +154,7 @@ impl Roster {
 
     /// Wakes the notice threads of the sessions at all other places.
     pub fn wake_others<R: Wait>(&self, rt: &R, at: usize) {
-        for (other, place) in self.list.iter().enumerate() {
+        for (other, place) in self.list.iter().take(self.used(rt)).enumerate() {
             if other != at
                 && let Some(member) = &*place.lock(rt)
             {
@@ -147,7 +165,7 @@ impl Roster {
 
     /// Wakes the notice threads of all sessions.
     pub fn wake_all<R: Wait>(&self, rt: &R) {
-        for place in &self.list {
+        for place in self.list.iter().take(self.used(rt)) {
             if let Some(member) = &*place.lock(rt) {
                 member.unparker.unpark();
             }

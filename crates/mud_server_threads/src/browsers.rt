@@ -7,6 +7,7 @@ use mud_hall::HallName;
 use mud_server_state::NoPlace;
 use mud_socket::{Entrance, HeadReader, Heard, Socket, hear, refuse, set_up};
 use mud_web::Channel;
+use std::alloc::{AllocError, Global};
 use std::net::{IpAddr, SocketAddr, TcpStream};
 use std::sync::{Arc, Wait};
 use std::thread::Threads;
@@ -56,8 +57,7 @@ where
     // a request for a web socket was refused.
     fn turn_away(&self, socket: &Socket, no_place: NoPlace, answer: Vec<u8>) {
         let mut answer = answer;
-        let mut channel = Channel::new(self.alloc);
-        match channel.close(no_place.close(), &mut answer) {
+        match push_close(self.alloc, no_place, &mut answer) {
             Ok(()) => socket.answer(self.rt, &answer),
             Err(_) => socket.shut(),
         }
@@ -147,4 +147,10 @@ where
             self.state.lobby.release_chair(self.rt, chair);
         }
     }
+}
+
+// Appends the close of a web socket that has no place.
+fn push_close(alloc: Global, no_place: NoPlace, out: &mut Vec<u8>) -> Result<(), AllocError> {
+    let mut channel = Channel::new(alloc)?;
+    channel.close(no_place.close(), out)
 }

@@ -120,7 +120,7 @@ impl<J: HallName> Connection<J> {
     ) -> Option<u32> {
         let framing = match self.socket.entrance() {
             Entrance::Telnet => Framing::telnet(),
-            Entrance::Web => Framing::web(alloc),
+            Entrance::Web => Framing::web(alloc).ok()?,
         };
         let desk = state.take_desk(rt, at).ok()?;
         let number = desk.number();
@@ -214,20 +214,27 @@ impl<J: HallName> Connection<J> {
         state.release_place(rt, at);
     }
 
-    // Sends a text after the versions that it can name are synced; an empty text names none.
+    // Sends a text after the versions that it can name are synced; an empty text names none. The client uses the memory
+    // of the text again.
     fn send_text<R: Wait + Clock>(
         &self,
         rt: &R,
         gate: &Gate<J>,
+        client: &mut Option<Client<J>>,
         text: Held<J, Sayings>,
     ) -> Result<(), Parting> {
         if text.is_empty() {
             return Ok(());
         }
-        match gate.wait_for(rt, text.version()) {
-            Some(receipt) => self.socket.send(rt, text.open(&receipt).as_slice()),
-            None => Err(Parting::JournalFault),
+        let Some(receipt) = gate.wait_for(rt, text.version()) else {
+            return Err(Parting::JournalFault);
+        };
+        let sent = text.open(&receipt);
+        self.socket.send(rt, sent.as_slice())?;
+        if let Some(client) = client {
+            client.reuse(sent);
         }
+        Ok(())
     }
 
     /// Sends the output of a step, under the session's lock, after the versions that it can name are synced. Returns
@@ -244,7 +251,7 @@ impl<J: HallName> Connection<J> {
         if let Some(End::Over(error)) = end {
             self.socket.part(rt, Parting::of_error(&error));
         }
-        let parting = match self.send_text(rt, &state.gate, text) {
+        let parting = match self.send_text(rt, &state.gate, client, text) {
             Ok(()) => end.map(parting_of),
             Err(parting) => Some(parting),
         };

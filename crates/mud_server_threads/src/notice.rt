@@ -10,6 +10,9 @@ use std::time::{Clock, Duration};
 // The number of sessions from which it takes the longest rest after each look.
 const MOST_BUSY: u32 = 32;
 
+// The number of microseconds that each session adds to the rest.
+const SHARE_MICROSECONDS: u64 = 32;
+
 /// The parker on which a notice thread sleeps until its waker wakes it.
 ///
 /// A proof of its own shows the prover that this struct may cross threads. For the bare `Parker`, whose type names an
@@ -19,11 +22,11 @@ pub(crate) struct Sleeper {
     pub(crate) parker: Parker,
 }
 
-// Returns the rest after a look: in microseconds the square of the number of sessions. Each session wakes all others,
-// so the number of wake-ups grows in this way.
+// Returns the rest after a look. It is proportional to the number of sessions, so up to `MOST_BUSY` sessions all notice
+// threads together look at most some 31,000 times a second.
 fn pause<J: HallName>(state: &StateOf<J>) -> Duration {
     let busy = u64::from(state.session_count().min(MOST_BUSY));
-    Duration::from_micros(busy * busy)
+    Duration::from_micros(busy * SHARE_MICROSECONDS)
 }
 
 // Waits while the answers to the player's own lines bring the changes of others, which saves texts: until no line was

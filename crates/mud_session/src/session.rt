@@ -22,7 +22,8 @@ use std::thread::Threads;
 // The capacity for the number and the line end of a text.
 const NUMBERED_BYTES: usize = 16;
 
-// The length up to which an answer is copied, whatever output is before it.
+// The length up to which an answer is copied, whatever output is before it, and the capacity up to which the memory of
+// an output is used again.
 const COPIED_BYTES: usize = 4096;
 
 /// A session: its terminal, whether it has ended, and its output.
@@ -96,6 +97,17 @@ impl Session {
         ensures rest { self.new ≡ record self.old { out = [] } }
     {
         std::mem::replace(&mut self.out, Vec::new(self.alloc))
+    }
+
+    /// Takes the memory of an output that was sent, and uses it for the output to come. The memory of a long output is
+    /// freed instead, and so is any memory while output waits. It does not allocate.
+    pub fn reuse(&mut self, mut out: Vec<u8>)
+        ensures { self.new ≡ self.old }
+    {
+        if self.out.is_empty() && out.capacity() <= COPIED_BYTES {
+            out.clear();
+            self.out = out;
+        }
     }
 
     /// Consumes bytes, and answers each line that they complete. If an allocation fails for a line, the answer is `(out

@@ -269,24 +269,42 @@ impl Socket {
         let _ = self.stream.shutdown(Shutdown::Write);
     }
 
-    // Writes a whole text, in slices of time. The other side has this number of seconds, and one more for each piece.
-    // If the session rests, the rest of the text after the first slice is kept.
+    // Writes a whole text, in slices of time. After the first slice the other side has this number of seconds, and one
+    // more for each piece. If the session rests, the rest of the text after a slice is kept.
     fn write_whole<R: Wait + Clock>(
         &self,
         rt: &R,
         text: &[u8],
         seconds: u64,
     ) -> Result<(), Parting> {
+        if text.is_empty() {
+            return Ok(());
+        }
+        let taken = self.write_some(text)?;
+        if taken >= text.len() {
+            return Ok(());
+        }
+        self.write_rest(rt, text, taken, seconds)
+    }
+
+    // Writes the rest of a text, from the byte at `written` on.
+    fn write_rest<R: Wait + Clock>(
+        &self,
+        rt: &R,
+        text: &[u8],
+        written: usize,
+        seconds: u64,
+    ) -> Result<(), Parting> {
         let start = now(rt);
-        let mut taken = 0usize;
+        let mut taken = written;
         for _ in rt.forever() {
             if taken >= text.len() {
                 return Ok(());
             }
-            taken = taken.saturating_add(self.write_some(&text[taken..])?);
-            if taken < text.len() && self.is_resting() {
+            if self.is_resting() {
                 return self.keep_rest(rt, &text[taken..]);
             }
+            taken = taken.saturating_add(self.write_some(&text[taken..])?);
             let wait = time_for(seconds, taken).saturating_sub(now(rt).saturating_sub(start));
             if wait.is_zero() && taken < text.len() {
                 return Err(Parting::WriteTimeout);

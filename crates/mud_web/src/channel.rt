@@ -29,10 +29,10 @@ use websocket::protocol::{
 pub const MOST_MESSAGE: usize = 4096;
 
 /// The server's side of a web socket after the handshake. It does no input or output itself. It keeps at most one frame
-/// and one message, besides the bytes that it is fed.
+/// and one message, besides the bytes that it is fed. Its context is boxed, so that a channel is cheap to move.
 #[derive(Drop)]
 pub struct Channel {
-    context: WebSocketContext,
+    context: Box<WebSocketContext>,
     unread: Vec<u8>,
     has_ended: bool,
 }
@@ -44,27 +44,27 @@ impl Model for Channel {
 
     ghost Value = { Standing };
 
-    ghost view = { λ c. record { conn = c.context; unread = c.unread.items; has_ended = c.has_ended } };
+    ghost view = { λ c. record { conn = c.context.value; unread = c.unread.items; has_ended = c.has_ended } };
 
-    ghost invariant = { λ c. c.context.role ≡ Server };
+    ghost invariant = { λ c. c.context.value.role ≡ Server };
 }
 
 impl Channel {
-    /// Returns a channel in its initial state.
-    pub fn new(alloc: Global) -> Channel
-        ensures stands { StandsAfter result [] }
-        ensures conn { result.conn ≡ new_connection }
+    /// Returns a channel in its initial state. The only error is out of memory.
+    pub fn new(alloc: Global) -> Result<Channel, AllocError>
+        ensures stands { IfOk result (λ channel. StandsAfter channel []) }
+        ensures conn { IfOk result (λ channel. channel.conn ≡ new_connection) }
     {
         let config = WebSocketConfig {
             max_message_size: Some(MOST_MESSAGE),
             max_frame_size: Some(MOST_MESSAGE),
             accept_unmasked_frames: false,
         };
-        Channel {
-            context: WebSocketContext::new(alloc, Role::Server, config),
+        Ok(Channel {
+            context: Box::new(alloc, WebSocketContext::new(alloc, Role::Server, config))?,
             unread: Vec::new(alloc),
             has_ended: false,
-        }
+        })
     }
 
     /// Returns whether the channel has ended and accepts no more bytes.

@@ -85,6 +85,6 @@ pub fn write_turned_away(
     ensures { OnOk result (out.new.items ≡ out.old.items ++ response_bytes accept.now [] ++ close_frame ending) }
 {
     write_accept(accept, out)?;
-    let mut channel = Channel::new(*out.allocator());
+    let mut channel = Channel::new(*out.allocator())?;
     channel.close(ending, out)
 }

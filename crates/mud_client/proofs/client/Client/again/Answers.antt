@@ -11,7 +11,8 @@ invariant_of-client g c =
     let inside = c.resting.inside in
     let desk = c.sit-sits.new.desk.state in
     again_kept _
-    (state_of (length g.J.HallName.cells) inside.framing inside.waiting.items inside.session desk inside.has_ended)
+    (state_of (length g.J.HallName.cells) inside.link.value.framing inside.link.value.waiting.items
+    inside.link.value.session desk inside.has_ended)
     refl c.sit-sits.ensures.told c.resting.invariant
 
 pub returns-clause-same : goal.returns-clause-same
@@ -30,6 +31,7 @@ returns-clause-stands g c client start came sent is going s =
     let inside = c.resting.inside in
     let desk = c.sit-sits.new.desk.state in
     again_stands start came sent client
-    (state_of (length g.J.HallName.cells) inside.framing inside.waiting.items inside.session desk inside.has_ended)
+    (state_of (length g.J.HallName.cells) inside.link.value.framing inside.link.value.waiting.items
+    inside.link.value.session desk inside.has_ended)
     (ap (λ (r : RestingState). record r { player = desk.player }) (c.resting.view_is ∙ is))
     (ap (λ (r : RestingState). r.session.has_ended) (sym is) ∙ going) c.sit-sits.ensures.told s

@@ -2,6 +2,7 @@ use Rattle.std.proofs.Common.{◌≡◌, ℕ, false, true, List, [], length, Opt
 use Rattle.std.proofs.Math.Logic.{∥∥₁_map, ∥∥₁_elim}
 use Rattle.std.proofs.Math.Bool.{Bool-set}
 use Rattle.mud_client.specs.declared.client.Client.TheInside.{Inside}
+use Rattle.mud_client.specs.declared.client.Link.{Link}
 use Rattle.mud_client.specs.declared.framing.Framing.{Framing}
 use Rattle.mud_client.specs.declared.outgoing.End.{End}
 use Rattle.mud_client.specs.Client.{ClientState, state_of, IsSound}
@@ -16,39 +17,45 @@ use Rattle.mud_client.proofs.client.Client.feed.Goals.{After-give, After-say}
 
 -- the client before the input, and after it
 
-abbrev before : (g : Over) → Inside g.row.J.Denot → ClientState
-before g inside =
-    state_of (length g.J.HallName.cells) inside.framing inside.waiting.items inside.session inside.desk.state
-    inside.has_ended
+abbrev before : (g : Over) → Inside g.row.J.Denot → Link → ClientState
+before g inside link =
+    state_of (length g.J.HallName.cells) link.framing link.waiting.items link.session inside.desk.state inside.has_ended
 
-abbrev mid : (g : Over) → Inside g.row.J.Denot → Framing → List ℕ → ClientState
-mid g inside framing typed =
-    state_of (length g.J.HallName.cells) framing typed inside.session inside.desk.state inside.has_ended
+abbrev mid : (g : Over) → Inside g.row.J.Denot → Link → Framing → List ℕ → ClientState
+mid g inside link framing typed =
+    state_of (length g.J.HallName.cells) framing typed link.session inside.desk.state inside.has_ended
 
 -- frames ended it
 
 pub cut_off-requires-clause-open_still : goal.cut_off-requires-clause-open_still
 cut_off-requires-clause-open_still g c κs bounds =
-    ∥∥₁_elim c.client.invariant (Bool-set c.client.inside.session.has_ended false)
+    ∥∥₁_elim (rw (sym c.deref_mut-link.ensures.value) at c.client.invariant) (Bool-set
+    c.deref_mut-link.result.now.session.has_ended false)
     (λ i. sym (i c.if-client.false).ended ∙ c.if-client.false)
 
 pub cut_off-requires-clause-replies : goal.cut_off-requires-clause-replies
 cut_off-requires-clause-replies g c κs bounds =
-    broken_replies c.in-Err.fault (before g c.client.inside) c.args.bytes.now c.read-read.new.typed.items
-    c.read-read.new.replies.items c.in-Err.ensures.over (∥∥₁_map c.client.invariant (λ i. i c.if-client.false))
+    broken_replies c.in-Err.fault (before g c.client.inside c.deref_mut-link.result.now) c.args.bytes.now
+    c.read-read.new.typed.items
+    c.read-read.new.replies.items c.in-Err.ensures.over (∥∥₁_map (rw (sym c.deref_mut-link.ensures.value) at
+    c.client.invariant) (λ i. i c.if-client.false))
 
 pub returns-in-Err-clause-step : goal.returns-in-Err-clause-step
 returns-in-Err-clause-step g c =
     let inside = c.client.inside in
     let cut : ClientState =
-    record (mid g inside c.read-read.new.self c.read-read.new.typed.items) { has_ended = true } in
+    record (mid g inside c.deref_mut-link.result.now c.read-read.new.self c.read-read.new.typed.items) {
+      has_ended =
+          true;
+    } in
     let new = c.cut_off.result.0 in
     let out = output_of c.cut_off.result.1 in
     let bytes = c.args.bytes.now in
     subst (λ (x : ClientState). MatchEnd out.end (Steps bytes x new out) (λ e. CutsOff bytes e x new out)
-    (out.text ≡ [])) c.client.view_is
+    (out.text ≡ [])) (rw (sym c.deref_mut-link.ensures.value) at c.client.view_is)
     (match_end out.end (λ done. absurd done)
-    (λ e is over. cut_so bytes c.read-read.new.replies.items c.in-Err.fault e (before g inside) cut new out refl
+    (λ e is over. cut_so bytes c.read-read.new.replies.items c.in-Err.fault e (before g inside
+    c.deref_mut-link.result.now) cut new out refl
     c.in-Err.ensures.over over.0 over.1 over.2) (λ none. none) c.cut_off.ensures.over)
 
 pub returns-in-Err-clause-stands : goal.returns-in-Err-clause-stands
@@ -60,19 +67,20 @@ returns-in-Err-clause-stands g c start came sent s =
 pub invariant_of-client-in_default : goal.invariant_of-client-in_default
 invariant_of-client-in_default g c =
     let inside = c.client.inside in
-    ∥∥₁_map c.client.invariant (λ i going.
-    comes_sound c.args.bytes.now c.read-read.new.replies.items (before g inside)
-    (mid g inside c.read-read.new.self c.read-read.new.typed.items)
+    ∥∥₁_map (rw (sym c.deref_mut-link.ensures.value) at c.client.invariant) (λ i going.
+    comes_sound c.args.bytes.now c.read-read.new.replies.items (before g inside c.deref_mut-link.result.now)
+    (mid g inside c.deref_mut-link.result.now c.read-read.new.self c.read-read.new.typed.items)
     (record { reads = c.in_default.ensures.ok; same = refl }) (i going))
 
 pub new-requires : goal.new-requires
 new-requires g c =
     let inside = c.client.inside in
     record {
-      tells = ∥∥₁_map c.client.invariant (λ i.
-          let s : IsSound (before g inside) = i c.if-client.false in
+      tells = ∥∥₁_map (rw (sym c.deref_mut-link.ensures.value) at c.client.invariant) (λ i.
+          let s : IsSound (before g inside c.deref_mut-link.result.now) = i c.if-client.false in
           inr (inr
-          (replies_read inside.framing c.read-read.new.self s.came c.args.bytes.now _ inside.waiting.items
+          (replies_read c.deref_mut-link.result.now.framing c.read-read.new.self s.came c.args.bytes.now _
+          c.deref_mut-link.result.now.waiting.items
           c.read-read.new.typed.items s.stands.said s.sent c.read-read.new.replies.items c.in_default.ensures.ok
           s.stands.frames)));
     }
@@ -81,9 +89,11 @@ replied : (g : Over) (c : After-give g) → Steps c.args.bytes.now c.args.self c
 replied g c =
     let inside = c.client.inside in
     let replies = c.read-read.new.replies in
-    subst (λ (x : ClientState). Steps c.args.bytes.now x c.give.result.0 (output_of c.give.result.1)) c.client.view_is
-    (frames_step c.args.bytes.now replies.items (before g inside)
-    (mid g inside c.read-read.new.self c.read-read.new.typed.items) c.give.result.0 (output_of c.give.result.1)
+    subst (λ (x : ClientState). Steps c.args.bytes.now x c.give.result.0 (output_of c.give.result.1)) (rw (sym
+    c.deref_mut-link.ensures.value) at c.client.view_is)
+    (frames_step c.args.bytes.now replies.items (before g inside c.deref_mut-link.result.now)
+    (mid g inside c.deref_mut-link.result.now c.read-read.new.self c.read-read.new.typed.items) c.give.result.0
+    (output_of c.give.result.1)
     (record { reads = c.in_default.ensures.ok; same = refl })
     (some_wait replies.items _ replies.ok.0 c.if-not-is_empty.ensures) c.if-client.false c.give.ensures.client
     (ap (λ h. h.text.items) c.give.ensures.text ∙ ap (λ v. v.items) c.new.ensures.text)
@@ -124,9 +134,9 @@ said g c =
     let new = c.say.result.0 in
     let out = output_of c.say.result.1 in
     subst (λ (x : ClientState). MatchEnd out.end (Steps bytes x new out) (λ e. CutsOff bytes e x new out)
-    (out.text ≡ [])) c.client.view_is
-    (line_step bytes replies.items c.in-Ok.has_line (before g inside)
-    (mid g inside c.read-read.new.self c.read-read.new.typed.items) c.in-Ok.client new out
+    (out.text ≡ [])) (rw (sym c.deref_mut-link.ensures.value) at c.client.view_is)
+    (line_step bytes replies.items c.in-Ok.has_line (before g inside c.deref_mut-link.result.now)
+    (mid g inside c.deref_mut-link.result.now c.read-read.new.self c.read-read.new.typed.items) c.in-Ok.client new out
     (record { reads = c.in_default.ensures.ok; same = refl })
     (none_waits replies.items _ replies.ok.0 c.if-not-is_empty.ensures) c.in-Ok.ensures.ok
     c.in-Ok.ensures.line c.say.ensures.says)

@@ -45,9 +45,10 @@ not_found bs false which is =
       ended = which;
     }
 
-first : (g : Over) (c : After-into_desk g) → IsLine c.self.inside.waiting.items c.match-end.end c.match-end.count
+first : (g : Over) (c : After-into_desk g) → IsLine c.deref_mut-parts.result.now.waiting.items c.match-end.end
+    c.match-end.count
 first g c =
-    let waiting = c.self.inside.waiting in
+    let waiting = c.deref_mut-parts.result.now.waiting in
     let bs : List ℕ = waiting.items in
     let count : ℕ = c.match-end.count in
     let at = position_from_yields_List ends_line _ _ c.position-end.result c.position-end.ensures.ran
@@ -69,12 +70,14 @@ first g c =
 abbrev before : (g : Over) (c : After-into_desk g) → ClientState
 before g c =
     let inside = c.self.inside in
-    state_of (length g.J.HallName.cells) inside.framing inside.waiting.items inside.session inside.desk.state
+    state_of (length g.J.HallName.cells) c.deref_mut-parts.result.now.framing c.deref_mut-parts.result.now.waiting.items
+    c.deref_mut-parts.result.now.session inside.desk.state
     inside.has_ended
 
 abbrev after : (g : Over) (c : After-into_desk g) → ClientState
 after g c =
-    state_of (length g.J.HallName.cells) c.self.inside.framing c.drop_front.new.text.items c.feed-fed.new.self
+    state_of (length g.J.HallName.cells) c.deref_mut-parts.result.now.framing c.drop_front.new.text.items
+    c.feed-fed.new.self
     c.into_desk.result.state c.if-has_ended.has_ended
 
 ended : (g : Over) (c : After-into_desk g)
@@ -83,7 +86,7 @@ ended g c =
     elim c.if-has_ended.branch [
       | then-has_ended w ↦ w.has_ended-is ∙ w.if-has_ended.true
           ∙ sym (ap (λ (b : Bool). b || c.feed-fed.new.self.has_ended) w.if-has_ended.true)
-      | else-has_ended w ↦ w.has_ended-is ∙ w.ended-has_ended.ensures
+      | else-has_ended w ↦ w.has_ended-is ∙ c.ended-is_over.ensures
           ∙ sym (ap (λ (b : Bool). b || c.feed-fed.new.self.has_ended) w.if-has_ended.false)
     ]
 
@@ -93,8 +96,10 @@ fed g c =
     let line = first g c in
     let count : ℕ = c.match-end.count in
     on_ok c.feed-fed.result c.feed-fed.ensures.ok
-    (fed_line (length g.J.HallName.cells) inside.framing inside.waiting.items c.drop_front.new.text.items
-    (take count c.deref-2.result.now) inside.session c.feed-fed.new.self inside.desk.state c.into_desk.result.state _
+    (fed_line (length g.J.HallName.cells) c.deref_mut-parts.result.now.framing
+    c.deref_mut-parts.result.now.waiting.items c.drop_front.new.text.items
+    (take count c.deref-2.result.now) c.deref_mut-parts.result.now.session c.feed-fed.new.self inside.desk.state
+    c.into_desk.result.state _
     c.new-seat.result c.feed-fed.new.door inside.has_ended c.if-has_ended.has_ended c.new-seat.ensures
     c.into_desk.ensures.state (ap (λ (bs : List ℕ). take count bs) c.deref-2.ensures.value ∙ line.takes)
     (c.drop_front.ensures ∙ line.leaves) (ended g c))
@@ -102,27 +107,31 @@ fed g c =
 pub invariant_of-client : goal.invariant_of-client
 invariant_of-client g c =
     let p = (goal.at.invariant_of-client g c).After-into_desk in
-    fed_kept c.feed-fed.result (before g p) (after g p) (fed g p) c.feed-fed.ensures.err (ended g p) c.self.invariant
+    fed_kept c.feed-fed.result (before g p) (after g p) (fed g p) c.feed-fed.ensures.err (ended g p) (rw (sym
+    c.deref_mut-parts.ensures.value) at c.self.invariant)
 
 pub invariant_of-client-in-Err : goal.invariant_of-client-in-Err
 invariant_of-client-in-Err g c =
     let p = (goal.at.invariant_of-client-in-Err g c).After-into_desk in
-    fed_kept c.feed-fed.result (before g p) (after g p) (fed g p) c.feed-fed.ensures.err (ended g p) c.self.invariant
+    fed_kept c.feed-fed.result (before g p) (after g p) (fed g p) c.feed-fed.ensures.err (ended g p) (rw (sym
+    c.deref_mut-parts.ensures.value) at c.self.invariant)
 
 pub returns-in-Ok-clause-ok : goal.returns-in-Ok-clause-ok
 returns-in-Ok-clause-ok g c =
     let p = (goal.at.returns-in-Ok-clause-ok g c).After-into_desk in
-    subst (λ (x : ClientState). FeedsLine x (after g p)) c.self.view_is
+    subst (λ (x : ClientState). FeedsLine x (after g p)) (rw (sym c.deref_mut-parts.ensures.value) at c.self.view_is)
     (subst (λ r. OnOk r (FeedsLine (before g p) (after g p))) c.in-Ok.is (fed g p))
 
 pub returns-in-Ok-clause-line : goal.returns-in-Ok-clause-line
 returns-in-Ok-clause-line g c =
     let p = (goal.at.returns-in-Ok-clause-line g c).After-into_desk in
-    c.is_some.ensures ∙ (first g p).ended ∙ ap (λ (x : ClientState). has_line x.waiting) c.self.view_is
+    c.is_some.ensures ∙ (first g p).ended ∙ ap (λ (x : ClientState). has_line x.waiting) (rw (sym
+    c.deref_mut-parts.ensures.value) at c.self.view_is)
 
 pub returns-in-Ok-clause-names : goal.returns-in-Ok-clause-names
 returns-in-Ok-clause-names g c going =
     let p = (goal.at.returns-in-Ok-clause-names g c).After-into_desk in
     fed_names_at (before g p) (after g p)
-    (subst (λ r. OnOk r (FeedsLine (before g p) (after g p))) c.in-Ok.is (fed g p)) c.self.invariant
-    (ap (λ (x : ClientState). x.has_ended) c.self.view_is ∙ going)
+    (subst (λ r. OnOk r (FeedsLine (before g p) (after g p))) c.in-Ok.is (fed g p)) (rw (sym
+    c.deref_mut-parts.ensures.value) at c.self.invariant)
+    (ap (λ (x : ClientState). x.has_ended) (rw (sym c.deref_mut-parts.ensures.value) at c.self.view_is) ∙ going)

@@ -7,5 +7,6 @@ pub invariant_of-self : goal.invariant_of-self
 invariant_of-self g c =
     let inside = c.self.inside in
     subst (λ (d : DeskState). ∥ (inside.has_ended ≡ false → IsSound
-    (state_of (length g.J.HallName.cells) inside.framing inside.waiting.items inside.session d inside.has_ended)) ∥₁)
+    (state_of (length g.J.HallName.cells) inside.link.value.framing inside.link.value.waiting.items
+    inside.link.value.session d inside.has_ended)) ∥₁)
     (sym c.ask.ensures.same) c.self.invariant

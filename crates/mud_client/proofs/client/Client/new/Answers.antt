@@ -10,8 +10,9 @@ invariant_of-result g c =
     let client : ClientState =
     state_of (length g.J.HallName.cells) c.args.framing c.new-2.result.items c.in-Ok.session c.guest.new.self.state
     false in
-    ∣ (λ going. sound_new client c.args.desk.state c.requires c.new-2.ensures.items begun.terminal begun.open_still
-    begun.out (ap (λ (d : View). d.state) c.guest.ensures) refl) ∣₁
+    rw c.in-Ok-new.ensures.ok (∣ (λ going. sound_new client c.args.desk.state c.requires c.new-2.ensures.items
+    begun.terminal begun.open_still
+    begun.out (ap (λ (d : View). d.state) c.guest.ensures) refl) ∣₁)
 
 pub returns-clause-stands : goal.returns-clause-stands
 returns-clause-stands g c =
@@ -19,5 +20,6 @@ returns-clause-stands g c =
     let client : ClientState =
     state_of (length g.J.HallName.cells) c.args.framing c.new-2.result.items c.in-Ok.session c.guest.new.self.state
     false in
-    begins client c.args.desk.state c.requires c.new-2.ensures.items begun.terminal begun.open_still
-    begun.out (ap (λ (d : View). d.state) c.guest.ensures)
+    rw c.in-Ok-new.ensures.ok (begins client c.args.desk.state c.requires c.new-2.ensures.items begun.terminal
+    begun.open_still
+    begun.out (ap (λ (d : View). d.state) c.guest.ensures))

@@ -9,24 +9,30 @@ pub invariant_of-resting : goal.invariant_of-resting
 invariant_of-resting g c =
     let inside = c.self.inside in
     rests_so
-    (state_of (length g.J.HallName.cells) inside.framing inside.waiting.items inside.session inside.desk.state
+    (state_of (length g.J.HallName.cells) inside.link.value.framing inside.link.value.waiting.items
+    inside.link.value.session inside.desk.state
     inside.has_ended)
-    (resting_of inside.framing inside.waiting.items inside.session c.player-player.result inside.has_ended)
-    (ap (λ (p : Option ℕ). resting_of inside.framing inside.waiting.items inside.session p inside.has_ended)
-    c.player-player.ensures.player) (c.if-not-is_silent.ensures.silent refl) c.self.invariant
+    (resting_of inside.link.value.framing inside.link.value.waiting.items inside.link.value.session
+    c.player-player.result inside.has_ended)
+    (ap (λ (p : Option ℕ). resting_of inside.link.value.framing inside.link.value.waiting.items
+    inside.link.value.session p inside.has_ended)
+    c.player-player.ensures.player) (rw c.deref.ensures at c.if-not-is_silent.ensures.silent refl) c.self.invariant
 
 pub returns-clause-rests : goal.returns-clause-rests
 returns-clause-rests g c =
     let inside = c.self.inside in
     let resting : RestingState =
-    resting_of inside.framing inside.waiting.items inside.session c.player-player.result inside.has_ended in
+    resting_of inside.link.value.framing inside.link.value.waiting.items inside.link.value.session
+    c.player-player.result inside.has_ended in
     subst (λ (x : ClientState). resting ≡ at_rest x) c.self.view_is
-    (ap (λ (p : Option ℕ). resting_of inside.framing inside.waiting.items inside.session p inside.has_ended)
+    (ap (λ (p : Option ℕ). resting_of inside.link.value.framing inside.link.value.waiting.items
+    inside.link.value.session p inside.has_ended)
     c.player-player.ensures.player)
 
 pub returns-clause-silent : goal.returns-clause-silent
 returns-clause-silent g c =
-    subst (λ (x : ClientState). x.session.out ≡ []) c.self.view_is (c.if-not-is_silent.ensures.silent refl)
+    let silent = rw c.deref.ensures at c.if-not-is_silent.ensures.silent refl in
+    subst (λ (x : ClientState). x.session.out ≡ []) c.self.view_is silent
 
 pub returns-clause-desk : goal.returns-clause-desk
 returns-clause-desk g c =
@@ -35,6 +41,6 @@ returns-clause-desk g c =
 pub returns-then-not-is_silent-clause-err : goal.returns-then-not-is_silent-clause-err
 returns-then-not-is_silent-clause-err g c = (
   refl,
-  λ silent. c.if-not-is_silent.ensures.waits refl
+  λ silent. (rw c.deref.ensures at c.if-not-is_silent.ensures.waits refl)
       (ap (λ (x : ClientState). x.session.out) c.self.view_is ∙ silent),
 )

@@ -15,10 +15,11 @@ use Rattle.mud_client.proofs.client.Client.say.Goals.{then-client, else-client}
 pub new-text-requires : goal.new-text-requires
 new-text-requires g c = record {
   tells = ∥∥₁_map
-      (subst (λ (x : ClientState). ∥ NamesSeen x.session x.desk ∥₁) (sym c.client.view_is) c.requires)
+      (subst (λ (x : ClientState). ∥ NamesSeen x.session x.desk ∥₁) (sym (rw (sym c.deref_mut-link.ensures.value) at
+      c.client.view_is)) c.requires)
       (λ names.
-      said_names c.client.inside.framing (length c.client.inside.desk.state.seen) c.seen.result
-      c.client.inside.session.out c.take_out-said.result.items c.in-Ok.bytes.items names.out
+      said_names c.deref_mut-link.result.now.framing (length c.client.inside.desk.state.seen) c.seen.result
+      c.deref_mut-link.result.now.session.out c.take_out-said.result.items c.in-Ok.bytes.items names.out
       c.take_out-said.ensures.text c.in-Ok.ensures.text c.seen.ensures.seen);
 }
 
@@ -26,17 +27,19 @@ pub invariant_of-client : goal.invariant_of-client
 invariant_of-client g c =
     let inside = c.client.inside in
     silent_kept
-    (state_of (length g.J.HallName.cells) inside.framing inside.waiting.items inside.session inside.desk.state
+    (state_of (length g.J.HallName.cells) c.deref_mut-link.result.now.framing c.deref_mut-link.result.now.waiting.items
+    c.deref_mut-link.result.now.session inside.desk.state
     inside.has_ended) c.frame.new.self c.take_out-said.new.self c.frame.ensures.same c.take_out-said.ensures.rest
-    c.client.invariant
+    (rw (sym c.deref_mut-link.ensures.value) at c.client.invariant)
 
 pub invariant_of-client-in-Err : goal.invariant_of-client-in-Err
 invariant_of-client-in-Err g c =
     let inside = c.client.inside in
     silent_kept
-    (state_of (length g.J.HallName.cells) inside.framing inside.waiting.items inside.session inside.desk.state
+    (state_of (length g.J.HallName.cells) c.deref_mut-link.result.now.framing c.deref_mut-link.result.now.waiting.items
+    c.deref_mut-link.result.now.session inside.desk.state
     inside.has_ended) c.frame.new.self c.take_out-said.new.self c.frame.ensures.same c.take_out-said.ensures.rest
-    c.client.invariant
+    (rw (sym c.deref_mut-link.ensures.value) at c.client.invariant)
 
 pub give-requires : goal.give-requires
 give-requires g c none =
@@ -49,7 +52,8 @@ pub returns-after-client-clause-says : goal.returns-after-client-clause-says
 returns-after-client-clause-says g c =
     let inside = c.client.inside in
     let old : ClientState =
-    state_of (length g.J.HallName.cells) inside.framing inside.waiting.items inside.session inside.desk.state
+    state_of (length g.J.HallName.cells) c.deref_mut-link.result.now.framing c.deref_mut-link.result.now.waiting.items
+    c.deref_mut-link.result.now.session inside.desk.state
     inside.has_ended in
     let out = output_of c.give.result.1 in
     let which : (c.if-client.end ≡ Some Quit) ⊎ (c.if-client.end ≡ None) =
@@ -62,13 +66,14 @@ returns-after-client-clause-says g c =
       | then-client w ↦ ap (λ (e : Option End). is_some e) w.end-is ∙ sym w.if-client.true
       | else-client w ↦ ap (λ (e : Option End). is_some e) w.end-is ∙ sym w.if-client.false
     ] in
-    let gives : out.text ≡ framed inside.framing inside.session.out =
+    let gives : out.text ≡ framed c.deref_mut-link.result.now.framing c.deref_mut-link.result.now.session.out =
     ap (λ h. h.text.items) c.give.ensures.text ∙ ap (λ v. v.items) c.new-text.ensures.text ∙ c.in-Ok.ensures.text
-    ∙ ap (framed inside.framing) c.take_out-said.ensures.text in
+    ∙ ap (framed c.deref_mut-link.result.now.framing) c.take_out-said.ensures.text in
     let version : out.version ≡ length inside.desk.state.seen =
     ap (λ h. h.version) c.give.ensures.text ∙ c.new-text.ensures.version ∙ c.seen.ensures.seen in
     said_end (Says c.args.has_line c.args.self c.give.result.0 out) (out.text ≡ []) (λ e. ⊥) c.if-client.end
     out.end c.give.ensures.end which
-    (subst (λ (x : ClientState). Says c.args.has_line x c.give.result.0 out) c.client.view_is
+    (subst (λ (x : ClientState). Says c.args.has_line x c.give.result.0 out)
+    (rw (sym c.deref_mut-link.ensures.value) at c.client.view_is)
     (says_so c.args.has_line c.if-client.end old c.frame.new.self c.take_out-said.new.self c.give.result.0 out
     c.frame.ensures.same c.take_out-said.ensures.rest c.give.ensures.client ended gives version c.give.ensures.line))

@@ -9,12 +9,13 @@ import tempfile
 import time
 
 from harness.parts import part
+from harness.preload import library
 from harness.programs import program
 from harness.server import HOST, LOGGED, Client, Server
 
 SECONDS = 10
-# The longest start, in seconds, with as many changes as a history holds.
-START_SECONDS = 5
+# The longest start, in seconds, with as many changes as a history holds, and how long a slow sync takes.
+START_SECONDS, SYNC_SECONDS = 5, 2
 
 FIRST = b"mud history 2\n"
 LAST_LINE = b"2 1 say #2 hi\n"
@@ -290,6 +291,25 @@ def why_no_port():
         return "" if given == right else f"{given}"
 
 
+def why_delayed():
+    """Returns what went wrong if a player looks around while the change of another is being synced, or nothing if the
+    answer comes before the sync ends, by the version before the change."""
+    slow = {"LD_PRELOAD": library("slow_sync"), "SYNC_MICROSECONDS": str(SYNC_SECONDS * 1_000_000)}
+    with Place() as place, place.server(environment=slow) as server:
+        ann, bob = Client(server.port), Client(server.port)
+        for client, name in ((ann, b"Ann"), (bob, b"Bob")):
+            client.send(b"connect " + name)
+            while b"welcome #" not in client.line():
+                pass
+        ann.send(b"say hi")
+        time.sleep(SYNC_SECONDS / 4)
+        began = time.monotonic()
+        bob.send(b"@version")
+        line, took = bob.line(), time.monotonic() - began
+        said = ann.line()
+        return "" if line.startswith(b"[2]") and took < SYNC_SECONDS / 2 else f"{line} after {took} s; {said}"
+
+
 @part("journal", "a server goes on from its journal, or says why not and leaves the file as it is")
 def journal(count):
     def show(what, why_not, *given, **how):
@@ -311,6 +331,7 @@ def journal(count):
     show("another server has the port", why_no_port)
     show("an empty file is a new journal", why_lost, b"", FIRST)
     show("no file is a new journal", why_lost, None, FIRST)
+    show("an answer does not wait for the change of another", why_delayed)
     for length in (1, len(FIRST), 5000):
         show(f"{length} zeros are a new journal", why_lost, bytes(length), FIRST, torn=length)
     show("a first line that is old bytes is torn", why_lost, b"old bytes", FIRST, torn=9)

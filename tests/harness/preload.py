@@ -1,5 +1,5 @@
-"""The libraries of tests/preload. Each is preloaded into a program, counts its calls of one kind, and fails one of them
-or records what was synced.
+"""The libraries of tests/preload. Each is preloaded into a program, counts its calls of one kind, and fails one of
+them, delays them, or records what was synced.
 
 The harness compiles them once a run, into a folder that it removes at the end.
 """
@@ -13,7 +13,8 @@ from harness.programs import TOP
 
 # The libraries that suit any program, call by call, and those that suit only a server.
 LIBRARIES = ("refuse", "fail_ends", "fail_threads")
-SERVER_LIBRARIES = ("fail_files", "note_syncs", "lose_pages", "fail_accept", "ceiling", "short_hour", "late_lock")
+SERVER_LIBRARIES = ("fail_files", "note_syncs", "lose_pages", "fail_accept", "ceiling", "short_hour", "late_lock",
+                    "slow_sync")
 COMPILERS = ("cc", "gcc", "clang")
 
 

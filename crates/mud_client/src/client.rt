@@ -29,6 +29,8 @@ pub(crate) struct Link {
     pub(crate) framing: Framing,
     pub(crate) waiting: Vec<u8>,
     pub(crate) session: Session,
+    // the memory of frames that were sent
+    pub(crate) spare: Vec<u8>,
 }
 
 /// A session at its desk, the framing of its bytes, and the typed text that waits for an answer. Unless the client has
@@ -82,6 +84,7 @@ impl<J: HallName> Client<J> {
             framing,
             waiting: Vec::new(alloc),
             session,
+            spare: Vec::new(alloc),
         };
         let Ok(link) = Box::new(alloc, link) else {
             return Err(desk);
@@ -100,11 +103,15 @@ impl<J: HallName> Client<J> {
     /// If more lines wait, the next call answers one of them, even with empty input. If the input has frames to reply
     /// to, the call returns those replies, and answers no line. If frames end the connection, the lines typed before
     /// are executed, and get no answer.
+    ///
+    /// A question is answered by the entries that the desk has seen before, and by those up to the `most`-th. If these
+    /// are synced, its answer waits for no sync. A line that acts sees all entries.
     pub fn feed<R: Threads + Wait + Sync>(
         self,
         rt: &R,
         hall: &Hall<J>,
         workers: u32,
+        most: u32,
         bytes: &[u8],
     ) -> (Client<J>, Outgoing<J>)
         requires { workers ≤ MOST_WORKERS }
@@ -130,7 +137,7 @@ impl<J: HallName> Client<J> {
         if !replies.is_empty() {
             return client.give(before, Held::new(replies, 0), None, false);
         }
-        match client.feed_line(rt, hall, workers) {
+        match client.feed_line(rt, hall, workers, most) {
             Ok((client, has_line)) => client.say(before, has_line),
             Err((client, fault)) => client.refuse(before, End::of_session(fault)),
         }
@@ -169,11 +176,13 @@ impl<J: HallName> Client<J> {
         self.desk.ask(hall, &said).ok()
     }
 
-    /// Takes the memory of an output that was sent, and uses it for the output to come, like [`Session::reuse`].
+    /// Takes the memory of an output that was sent, and uses it for the output to come. The memory of a long output is
+    /// freed instead. It does not allocate.
     pub fn reuse(&mut self, sent: Vec<u8>)
         ensures { self.new ≡ self.old }
     {
-        self.link.session.reuse(sent);
+        let link = &mut *self.link;
+        link.framing.reuse(&mut link.session, &mut link.spare, sent);
     }
 
     /// Returns a line of the server's own, framed for the other side. It is no output of the session. The text is empty

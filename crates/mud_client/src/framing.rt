@@ -3,8 +3,13 @@
 ghost use Rattle.std.specs.Prelude.{◌≡◌, ◌++◌, ◌⊎◌, [], OnOk, IfOk, IfErr};
 ghost use Rattle.mud_web.specs.Channel.{IfOver};
 
+use mud_session::Session;
 use mud_web::{Channel, Ending, Fault, SendFault};
 use std::alloc::{AllocError, Global};
+use std::mem;
+
+// The capacity up to which the memory of frames is used again.
+const REUSED_BYTES: usize = 4096;
 
 /// The framing of a client's bytes.
 #[derive(Drop)]
@@ -53,18 +58,41 @@ impl Framing {
         }
     }
 
-    // Returns a text as it is sent.
-    pub(crate) fn frame(&mut self, alloc: Global, text: Vec<u8>) -> Result<Vec<u8>, SendFault>
-        ensures text { IfOk result (λ bytes. bytes.items ≡ framed self.old text.items) }
+    // Returns the output of a session as it is sent. Frames are written into the spare memory, and the session uses the
+    // memory of its output again.
+    pub(crate) fn frame(
+        &mut self,
+        alloc: Global,
+        session: &mut Session,
+        spare: &mut Vec<u8>,
+    ) -> Result<Vec<u8>, SendFault>
+        ensures text { IfOk result (λ bytes. bytes.items ≡ framed self.old session.old.out) }
+        ensures session { session.new ≡ record session.old { out = [] } }
         ensures same { self.new ≡ self.old }
     {
+        let text = session.take_out();
         match self {
             Framing::Telnet => Ok(text),
+            Framing::Web(_) if text.is_empty() => Ok(text),
             Framing::Web(channel) => {
-                let mut bytes = Vec::new(alloc);
+                let mut bytes = mem::replace(spare, Vec::new(alloc));
+                bytes.clear();
                 channel.send(&text, &mut bytes)?;
+                session.reuse(text);
                 Ok(bytes)
             }
+        }
+    }
+
+    // Takes the memory of an output that was sent: the session or further frames use it again. The memory of a long
+    // output is freed instead.
+    pub(crate) fn reuse(&self, session: &mut Session, spare: &mut Vec<u8>, sent: Vec<u8>)
+        ensures { session.new ≡ session.old }
+    {
+        match self {
+            Framing::Telnet => session.reuse(sent),
+            Framing::Web(_) if sent.capacity() <= REUSED_BYTES => *spare = sent,
+            Framing::Web(_) => {}
         }
     }
 

@@ -18,12 +18,14 @@ use std::sync::Wait;
 use std::thread::Threads;
 
 impl<J: HallName> Client<J> {
-    // Feeds the first waiting line to the session at the desk. Returns whether that line has a line end.
+    // Feeds the first waiting line to the session at the desk, which sees no entry after the `most`-th to answer a
+    // question. Returns whether that line has a line end.
     pub(crate) fn feed_line<R: Threads + Wait + Sync>(
         self,
         rt: &R,
         hall: &Hall<J>,
         workers: u32,
+        most: u32,
     ) -> Result<(Client<J>, bool), (Client<J>, SessionFault)>
         requires { workers ≤ MOST_WORKERS }
         ensures ok { IfOk result (λ fed. FeedsLine self fed.0) }
@@ -45,7 +47,7 @@ impl<J: HallName> Client<J> {
             Some(end) => end + 1,
             None => parts.waiting.len(),
         };
-        let mut seat = Seat::new(hall, desk, workers);
+        let mut seat = Seat::up_to(hall, desk, workers, most);
         let fed = parts.session.feed(rt, &mut seat, &parts.waiting[..count]);
         drop_front(&mut parts.waiting, count);
         let is_over = parts.session.ended();
@@ -77,7 +79,7 @@ impl<J: HallName> Client<J> {
         let mut client = self;
         while !client.link.waiting.is_empty() && !client.link.session.ended() {
             let _ = client.link.session.take_out();
-            let (after, _) = client.feed_line(rt, hall, workers)?;
+            let (after, _) = client.feed_line(rt, hall, workers, u32::MAX)?;
             client = after;
         }
         Ok(client)
@@ -168,8 +170,10 @@ impl<J: HallName> Client<J> {
     {
         let mut client = self;
         let link = &mut *client.link;
-        let said = link.session.take_out();
-        match link.framing.frame(client.alloc, said) {
+        match link
+            .framing
+            .frame(client.alloc, &mut link.session, &mut link.spare)
+        {
             Ok(bytes) => {
                 let text = Held::new(bytes, client.desk.seen() as usize);
                 let end = if client.has_ended {

@@ -1,18 +1,14 @@
 -- The notices of entries that others made.
-use Rattle.std.specs.Prelude.{ℕ, ◌+◌, List, [], ◌∷◌, ◌++◌, length, codes, decimal, Option}
+use Rattle.std.specs.Prelude.{ℕ, ◌+◌, List, [], ◌∷◌, ◌++◌, length, Option}
 use Rattle.mud_world.specs.State.{State}
 use Rattle.mud_world.specs.History.{world_of}
-use Rattle.mud_rules.specs.HeardLine.{heard_line}
+use Rattle.mud_rules.specs.HeardLine.{heard_line, notice_text}
 use Rattle.mud_chron.specs.Entry.{Entry}
 use Rattle.mud_chron.specs.Replay.{changes_of}
 use Rattle.std.specs.Option.{option_map, option_and_then, option_to_list}
 
 abbrev pub world_after : List Entry → State
 world_after h = world_of (changes_of h)
-
--- a notice names the version of the change
-abbrev pub notice_text : ℕ → List ℕ → List ℕ
-notice_text n line = codes "(" ++ decimal n ++ codes ") " ++ line
 
 -- the notice of the entry after a history for a player, if the player hears it
 abbrev pub notice : Option ℕ → List Entry → Entry → List (List ℕ)

@@ -66,10 +66,11 @@ impl<J: HallName> Desk<J> {
         let text = reply_text(alloc, self.world(), &change)?;
         let actor = change.actor;
         let entry = Box::new(alloc, Entry::new(self.number, change))?;
-        self.calls.reserve(1)?;
-        match self.replica.publish(row, entry) {
+        let inner = &mut *self.inner;
+        inner.calls.reserve(1)?;
+        match inner.replica.publish(row, entry) {
             Ok(version) => {
-                self.calls.push_reserved(version);
+                inner.calls.push_reserved(version);
                 self.player = Some(actor);
                 Ok(Reply::Accepted { version, text })
             }

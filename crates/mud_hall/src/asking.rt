@@ -53,7 +53,8 @@ impl<J: HallName> Desk<J> {
         ensures ok { IfOk result (λ a. Answers self.old.state (line_of said.now) (answer_shown a)) }
     {
         let (version, player) = (self.seen(), self.player());
-        let (world, traveller) = (self.replica.world(), &mut self.traveller);
+        let inner = &mut *self.inner;
+        let (world, traveller) = (inner.replica.world(), &mut inner.traveller);
         match answering::respond(by, alloc, world, version, player, traveller, said)? {
             Some(answer) => Ok(answer),
             None => self.history(alloc, row),
@@ -65,7 +66,7 @@ impl<J: HallName> Desk<J> {
         requires { self.now.at ≡ length self.now.state.seen }
         ensures { result.now ≡ world_after self.now.state.seen }
     {
-        self.replica.world()
+        self.inner.replica.world()
     }
 
     /// Returns the player of this desk, who is one of that world, or `None` for a guest.
@@ -90,7 +91,7 @@ impl<J: HallName> Desk<J> {
         let version = self.seen();
         Ok(Answer {
             version,
-            text: known_answer(alloc, row, &mut self.replica)?,
+            text: known_answer(alloc, row, &mut self.inner.replica)?,
             cert: None,
         })
     }

@@ -262,7 +262,7 @@ impl<J: HallName> Desk<J> {
         ensures mine { IsPrefix self.old.state.seen whole.new.list }
         ensures theirs { IsPrefix whole.old.list whole.new.list }
     {
-        self.replica.tell(whole);
+        self.inner.replica.tell(whole);
     }
 
     // Returns the first version at which its calls and the entries differ.
@@ -271,7 +271,7 @@ impl<J: HallName> Desk<J> {
         ensures same { new.new ≡ new.old }
         ensures first { result ≡ first_apart self.now.state.calls (versions_by self.now.state.number first new.old) }
     {
-        differs(self.number, &self.calls, new, first)
+        differs(self.number, &self.inner.calls, new, first)
     }
 }
 

@@ -1,14 +1,12 @@
 //! Desks: one caller's side of a hall.
 
-ghost use Rattle.std.specs.Prelude.{◌≡◌, ◌++◌, ◌<◌, ◌≤◌, ◌+◌, length, max};
+ghost use Rattle.std.specs.Prelude.{◌≡◌, ◌++◌, ◌∷◌, ◌<◌, ◌≤◌, ◌+◌, [], length, max, if◌then◌else◌};
 ghost use Rattle.std.specs.Prelude.{map, is_some, Some, None, IfOk, OnErr, OnOk, MatchBool, string_bytes};
 ghost use Rattle.std.specs.Prelude.{vec_len, vec_capacity};
-ghost use Rattle.std.specs.Option.{option_to_list};
 ghost use mathlib.Core.List.{IsPrefix};
 ghost use Rattle.mud_world.specs.declared.limits.TheConstants.{MOST_ENTRIES};
 ghost use Rattle.mud_chron.specs.declared.limits.TheConstants.{MOST_DESKS};
-ghost use Rattle.mud_hall.specs.Notices.{notice_text};
-ghost use Rattle.mud_hall.specs.inner.Desks.{notice_in};
+ghost use Rattle.mud_hall.specs.inner.Desks.{IsUnused, if_told, notice_in};
 ghost use Rattle.mud_hall.specs.Desk.{View, TakesIn, Learns, IsNew, as_guest, pending, with_told};
 
 use crate::name::HallName;
@@ -16,27 +14,51 @@ use crate::travel::follow_change;
 use mud_chron::Entry;
 use mud_roads::Traveller;
 use mud_row::{Replica, Row};
-use mud_rules::{heard, push_about};
+use mud_rules::push_notice;
 use mud_world::World;
 use std::alloc::{AllocError, Global};
 use std::marker::{Model, PhantomData};
 use std::mem;
 
-// The bytes of the longest version in a notice, with its parentheses and the space behind them.
-const VERSION_BYTES: usize = 8;
+// The number of notices up to which their list is used again.
+const REUSED_NOTICES: usize = 16;
 
-/// One caller's side of a hall: its player, its replica of the history, its accepted calls, and its notices. The
-/// replica is boxed, so that a desk is cheap to move.
+/// One caller's side of a hall: its player, its replica of the history, its accepted calls, and its notices. All but
+/// the number and the player is boxed, so that a desk is cheap to move.
 #[derive(Drop)]
 pub struct Desk<J: HallName> {
     pub(crate) number: u32,
     pub(crate) player: Option<u32>,
-    pub(crate) replica: Box<Replica>,
+    pub(crate) inner: Box<Inner>,
+    of: PhantomData<J>,
+}
+
+/// The boxed parts of a desk.
+#[derive(Drop)]
+pub(crate) struct Inner {
+    pub(crate) replica: Replica,
     pub(crate) calls: Vec<u32>,
     pub(crate) told: Vec<String>,
+    // the memory of a notice that was sent
+    spare: Option<String>,
     // the traveller of its player, as long as nothing is opened or closed
     pub(crate) traveller: Option<Traveller>,
-    of: PhantomData<J>,
+}
+
+impl Inner {
+    // Returns the boxed parts of a new guest's desk with this replica.
+    pub(crate) fn new(alloc: Global, replica: Replica) -> Result<Box<Inner>, AllocError>
+        ensures { IfOk result (λ inner. IsUnused replica inner.value) }
+    {
+        let inner = Inner {
+            replica,
+            calls: Vec::new(alloc),
+            told: Vec::new(alloc),
+            spare: None,
+            traveller: None,
+        };
+        Ok(Box::new(alloc, inner)?)
+    }
 }
 
 impl<J: HallName> Model for Desk<J> {
@@ -56,23 +78,25 @@ impl<J: HallName> Model for Desk<J> {
       state = record {
         number = d.number;
         player = d.player;
-        seen = d.replica.value.list;
-        calls = d.calls.items;
-        told = map string_bytes d.told.items
-            ++ notices d.player (take d.replica.value.at d.replica.value.list)
-            (drop d.replica.value.at d.replica.value.list);
+        seen = d.inner.value.replica.list;
+        calls = d.inner.value.calls.items;
+        told = map string_bytes d.inner.value.told.items
+            ++ notices d.player (take d.inner.value.replica.at d.inner.value.replica.list)
+            (drop d.inner.value.replica.at d.inner.value.replica.list);
       };
-      at = d.replica.value.at;
+      at = d.inner.value.replica.at;
     } };
 
-    ghost invariant = { λ d. IsHeld J.cells J.loaded d.number d.player d.traveller d.replica.value };
+    ghost invariant = { λ d.
+        IsHeld J.cells J.loaded d.number d.player d.inner.value.traveller d.inner.value.replica };
 }
 
 impl<J: HallName> Desk<J> {
-    // Returns a new guest's desk with this replica.
-    pub(crate) fn guest_at(alloc: Global, replica: Box<Replica>, number: u32) -> Desk<J>
-        requires row { replica.value.row ≡ J.cells }
-        requires loaded { IsPrefix J.loaded replica.value.list }
+    // Returns a new guest's desk with this number and these parts.
+    pub(crate) fn guest_at(inner: Box<Inner>, number: u32) -> Desk<J>
+        requires unused { IsUnused inner.value.replica inner.value }
+        requires row { inner.value.replica.row ≡ J.cells }
+        requires loaded { IsPrefix J.loaded inner.value.replica.list }
         requires number { (1 ≤ number) × (number ≤ MOST_DESKS) }
         ensures new { IsNew J.loaded result.state }
         ensures number { result.state.number ≡ number }
@@ -80,10 +104,7 @@ impl<J: HallName> Desk<J> {
         Desk {
             number,
             player: None,
-            replica,
-            calls: Vec::new(alloc),
-            told: Vec::new(alloc),
-            traveller: None,
+            inner,
             of: PhantomData,
         }
     }
@@ -107,14 +128,14 @@ impl<J: HallName> Desk<J> {
         ensures seen { result ≡ length self.now.state.seen }
         ensures limit { result ≤ MOST_ENTRIES }
     {
-        self.replica.known()
+        self.inner.replica.known()
     }
 
     /// Returns the number of its accepted changes.
     pub fn accepted_count(&self) -> usize
         ensures { result ≡ length self.now.state.calls }
     {
-        self.calls.len()
+        self.inner.calls.len()
     }
 
     // Applies one more known entry to its world, and stores the notice for its player.
@@ -126,16 +147,18 @@ impl<J: HallName> Desk<J> {
             × (self.new.at ≡ self.old.at))) }
         ensures err { OnErr result (self.new.at ≡ self.old.at) }
     {
-        let replica = &mut *self.replica;
+        let inner = &mut *self.inner;
+        let replica = &mut inner.replica;
         let Some(entry) = replica.peek(row) else {
             return Ok(false);
         };
         let version = replica.at() + 1;
-        let line = line_told(alloc, self.player, version, replica.world(), entry)?;
-        self.told.reserve(1)?;
+        let mut line = inner.spare.take().unwrap_or(String::new(alloc));
+        let hears = write_notice(&mut line, self.player, version, replica.world(), entry)?;
+        inner.told.reserve(1)?;
         replica.step(row)?;
-        follow_change(&mut self.traveller, replica.world(), entry.change());
-        push_line(&mut self.told, line);
+        follow_change(&mut inner.traveller, replica.world(), entry.change());
+        keep_line(&mut inner.told, &mut inner.spare, line, hears);
         Ok(true)
     }
 
@@ -146,7 +169,7 @@ impl<J: HallName> Desk<J> {
         ensures state { TakesIn self.old.state self.new.state }
         ensures most { length self.new.state.seen ≤ max (length self.old.state.seen) most }
     {
-        self.replica.extend_to(row, most);
+        self.inner.replica.extend_to(row, most);
     }
 
     // Applies all known entries to its world.
@@ -155,7 +178,7 @@ impl<J: HallName> Desk<J> {
         ensures still { self.new.state ≡ self.old.state }
         ensures ok { OnOk result (self.new.at ≡ length self.new.state.seen) }
     {
-        for _ in self.replica.at()..self.replica.known() {
+        for _ in self.inner.replica.at()..self.inner.replica.known() {
             self.take_one(alloc, row)?;
         }
         Ok(())
@@ -168,7 +191,7 @@ impl<J: HallName> Desk<J> {
         ensures learns { Learns self.old.state other.old.state self.new.state }
         ensures theirs { IsPrefix other.old.state.seen self.new.state.seen }
     {
-        self.replica.learn(&mut other.replica);
+        self.inner.replica.learn(&mut other.inner.replica);
     }
 
     /// Makes it a guest's desk again. Its number, its known entries and its calls stay. It does not allocate.
@@ -176,7 +199,7 @@ impl<J: HallName> Desk<J> {
         ensures { self.new ≡ record { state = as_guest self.old.state; at = self.old.at } }
     {
         self.player = None;
-        self.told = Vec::new(*Vec::allocator(&self.told));
+        self.inner.told.clear();
     }
 
     /// Returns the notices of the entries that its world has applied, each once. The notices of the other entries come
@@ -185,49 +208,56 @@ impl<J: HallName> Desk<J> {
         ensures told { self.old.state.told ≡ map string_bytes result.items ++ self.new.state.told }
         ensures rest { self.new ≡ record { state = with_told self.old.state (pending self.old); at = self.old.at } }
     {
-        let empty = Vec::new(*Vec::allocator(&self.told));
-        mem::replace(&mut self.told, empty)
+        let told = &mut self.inner.told;
+        let empty = Vec::new(*Vec::allocator(told));
+        mem::replace(told, empty)
+    }
+
+    /// Takes the memory of notices that were sent, and uses it for the notices to come: that of one notice, and that of
+    /// a list of up to 16. It does not allocate.
+    pub fn reuse(&mut self, sent: Vec<String>)
+        ensures { self.new ≡ self.old }
+    {
+        let mut sent = sent;
+        let inner = &mut *self.inner;
+        if !inner.told.is_empty() || sent.capacity() > REUSED_NOTICES {
+            return;
+        }
+        if let Some(line) = sent.pop() {
+            inner.spare = Some(line);
+        }
+        sent.clear();
+        inner.told = sent;
     }
 }
 
-// Appends a line, if there is one. There is capacity for it.
-fn push_line(lines: &mut Vec<String>, line: Option<String>)
-    requires { vec_len lines.old < vec_capacity lines.old }
-    ensures { map string_bytes lines.new.items
-        ≡ map string_bytes lines.old.items ++ map string_bytes (option_to_list line) }
+// Appends a line to the notices if the player hears it, and keeps its memory otherwise. There is capacity for the line.
+fn keep_line(told: &mut Vec<String>, spare: &mut Option<String>, line: String, hears: bool)
+    requires { vec_len told.old < vec_capacity told.old }
+    ensures { map string_bytes told.new.items ≡ map string_bytes told.old.items ++ if_told hears (string_bytes line) }
 {
-    if let Some(line) = line {
-        lines.push_reserved(line);
+    if hears {
+        told.push_reserved(line);
+    } else {
+        *spare = Some(line);
     }
 }
 
-// Returns the notice of an entry for a player, if the player hears it, given the world before the entry.
-fn line_told(
-    alloc: Global,
+// Writes the notice of an entry for a player into the line, if the player hears it, given the world before the entry.
+// Returns whether the player hears it.
+fn write_notice(
+    line: &mut String,
     player: Option<u32>,
     version: u32,
     world: &World,
     entry: &Entry,
-) -> Result<Option<String>, AllocError>
-    ensures { IfOk result (λ line. map string_bytes (option_to_list line)
+) -> Result<bool, AllocError>
+    ensures { IfOk result (λ hears. if_told hears (string_bytes line.new)
         ≡ notice_in player version world.now entry.now) }
 {
     let Some(player) = player else {
-        return Ok(None);
+        return Ok(false);
     };
-    match heard(alloc, world, entry.change(), player)? {
-        None => Ok(None),
-        Some(line) => Ok(Some(notice_text(alloc, version, &line)?)),
-    }
-}
-
-// Returns the text of a notice, which names the version of the change.
-fn notice_text(alloc: Global, version: u32, line: &str) -> Result<String, AllocError>
-    ensures { IfOk result (λ text. string_bytes text ≡ notice_text version line.now) }
-{
-    let mut text = String::with_capacity(alloc, line.len().saturating_add(VERSION_BYTES))?;
-    push_about(&mut text, "(", version)?;
-    text.push_str(") ")?;
-    text.push_str(line)?;
-    Ok(text)
+    line.clear();
+    push_notice(line, version, world, entry.change(), player)
 }

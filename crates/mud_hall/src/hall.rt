@@ -16,10 +16,10 @@ ghost use Rattle.mud_hall.specs.Replies.{Failed, reply_shown, Acts};
 ghost use Rattle.mud_hall.specs.Answers.{answer_shown, Answers};
 ghost use Rattle.mud_hall.specs.NewHall.{Begun, IsLoadFault};
 ghost use Rattle.mud_hall.specs.Steps.{AreLoadable, IsSeated, connect_text};
-ghost use Rattle.mud_hall.specs.inner.Desks.{Travels};
+ghost use Rattle.mud_hall.specs.inner.Desks.{IsUnused, Travels};
 ghost use Rattle.mud_hall.specs.inner.Seating.{Connects};
 
-use crate::desk::Desk;
+use crate::desk::{Desk, Inner};
 use crate::fault::{Fault, LoadFault};
 use crate::guide::{Alone, Through, by_workers};
 use crate::kept::{Fresh, Kept};
@@ -217,19 +217,20 @@ impl<J: HallName> Hall<J> {
         ensures new { IfOk result (λ d. IsNew J.loaded d.state) }
         ensures fault { IfErr result (λ f. (f ≡ Fault.OutOfMemory) ⊎ (f ≡ Fault.DesksFull)) }
     {
-        let replica = self.copy_replica(rt)?;
+        let inner = self.copy_replica(rt)?;
         let mut kept = self.kept.lock(rt);
-        kept.desk(self.alloc, replica)
+        kept.desk(inner)
     }
 
-    // Returns a copy of the hall's own replica, after it has applied every set cell.
-    fn copy_replica<R: Wait>(&self, rt: &R) -> Result<Box<Replica>, AllocError>
-        ensures row { IfOk result (λ r. r.value.row ≡ J.cells) }
-        ensures loaded { IfOk result (λ r. IsPrefix J.loaded r.value.list) }
+    // Returns the parts of a new desk with a copy of the hall's own replica, after it has applied every set cell.
+    fn copy_replica<R: Wait>(&self, rt: &R) -> Result<Box<Inner>, AllocError>
+        ensures unused { IfOk result (λ i. IsUnused i.value.replica i.value) }
+        ensures row { IfOk result (λ i. i.value.replica.row ≡ J.cells) }
+        ensures loaded { IfOk result (λ i. IsPrefix J.loaded i.value.replica.list) }
     {
         let mut fresh = self.fresh.lock(rt);
         let replica = fresh.copy(self.alloc, &self.row)?;
-        Ok(Box::new(self.alloc, replica)?)
+        Inner::new(self.alloc, replica)
     }
 
     // Takes the act lock for a desk. While another thread holds it, the desk applies entries, so that under the lock it
@@ -306,7 +307,7 @@ impl<J: HallName> Hall<J> {
     fn connect_line(&self, desk: &Desk<J>, player: u32) -> Option<String>
         ensures { IfSome result (λ line. (name : List ℕ) × (string_bytes line ≡ connect_text name)) }
     {
-        let record = desk.replica.world().get(player)?;
+        let record = desk.inner.replica.world().get(player)?;
         let name = record.names.list().first()?.as_str();
         format!(in self.alloc; "connect \"{name}\"").ok()
     }

@@ -4,8 +4,9 @@ ghost use Rattle.std.specs.Prelude.{◌≡◌, ◌≤◌, ◌<◌, ◌+◌, ◌�
 ghost use mathlib.Core.List.{IsPrefix};
 ghost use Rattle.mud_chron.specs.declared.limits.TheConstants.{MOST_DESKS};
 ghost use Rattle.mud_hall.specs.Desk.{IsNew};
+ghost use Rattle.mud_hall.specs.inner.Desks.{IsUnused};
 
-use crate::desk::Desk;
+use crate::desk::{Desk, Inner};
 use crate::fault::Fault;
 use crate::name::HallName;
 use crate::reader::Reader;
@@ -69,10 +70,11 @@ impl<J: HallName> Kept<J> {
         })
     }
 
-    // Returns the desk with the next number and this replica.
-    pub(crate) fn desk(&mut self, alloc: Global, replica: Box<Replica>) -> Result<Desk<J>, Fault>
-        requires row { replica.value.row ≡ J.cells }
-        requires loaded { IsPrefix J.loaded replica.value.list }
+    // Returns the desk with the next number and these parts.
+    pub(crate) fn desk(&mut self, inner: Box<Inner>) -> Result<Desk<J>, Fault>
+        requires unused { IsUnused inner.value.replica inner.value }
+        requires row { inner.value.replica.row ≡ J.cells }
+        requires loaded { IsPrefix J.loaded inner.value.replica.list }
         ensures new { IfOk result (λ d. IsNew J.loaded d.state) }
         ensures number { IfOk result (λ d. (d.state.number ≡ self.old + 1) × (self.new ≡ self.old + 1)) }
         ensures err { IfErr result (λ f. (self.new ≡ self.old) × (f ≡ Fault.DesksFull)) }
@@ -82,7 +84,7 @@ impl<J: HallName> Kept<J> {
             return Err(Fault::DesksFull);
         }
         self.given += 1;
-        Ok(Desk::guest_at(alloc, replica, self.given))
+        Ok(Desk::guest_at(inner, self.given))
     }
 }
 

@@ -3,6 +3,7 @@
 ghost use Rattle.std.specs.Prelude.{◌≡◌, ◌≤◌, IfSome, true, false};
 
 use crate::journal::Receipt;
+use std::sync::atomic::{AtomicUsize, Ordering};
 use std::sync::{Condvar, Mutex, Wait};
 
 // The state of the barrier: the requested version, and the result of the journal.
@@ -25,6 +26,8 @@ struct Mark<J> {
 #[derive(Drop)]
 pub struct Gate<J> {
     state: Mutex<Mark<J>>,
+    // The number of synced entries. It is stored under the lock.
+    count: AtomicUsize,
     is_open: bool,
     // Signalled when something is to be synced, or when the gate is closed.
     work: Condvar,
@@ -38,6 +41,7 @@ fn gate_at<J>(synced: Receipt<J>, is_open: bool) -> Gate<J>
     ensures { result.is_open ≡ is_open }
 {
     Gate {
+        count: AtomicUsize::new(synced.up_to()),
         state: Mutex::new(Mark {
             wanted: synced.up_to(),
             synced,
@@ -72,12 +76,13 @@ impl<J> Gate<J> {
         self.is_open
     }
 
-    /// Returns the number of synced entries, or the greatest number if there is no journal.
-    pub fn synced_count<R: Wait>(&self, rt: &R) -> usize {
+    /// Returns the number of synced entries, or the greatest number if there is no journal. It takes no lock.
+    pub fn synced_count(&self) -> usize {
         if self.is_open {
-            return usize::MAX;
+            usize::MAX
+        } else {
+            self.count.load(Ordering::SeqCst)
         }
-        self.state.lock(rt).synced.up_to()
     }
 
     /// Waits until this many entries are synced. Returns no receipt if the journal fails before that. The receipt is
@@ -139,6 +144,7 @@ impl<J> Gate<J> {
         let synced = receipt.of_journal();
         let mut state = self.state.lock(rt);
         if state.synced.up_to() < synced.up_to() {
+            self.count.store(synced.up_to(), Ordering::SeqCst);
             state.synced = synced;
         }
         self.done.notify_all();

@@ -1,5 +1,5 @@
 -- Notices: the lines by which players hear of the changes of others, as bytes.
-use Rattle.std.specs.Prelude.{ℕ, nat_eq, false, List, ◌++◌, codes, Option, Some, None, if◌then◌else◌}
+use Rattle.std.specs.Prelude.{ℕ, nat_eq, false, List, ◌++◌, codes, decimal, Option, Some, None, if◌then◌else◌}
 use Rattle.std.specs.Option.{option_map_or, option_or}
 use Rattle.mud_world.specs.declared.change.Change.{Change}
 use Rattle.mud_world.specs.declared.change.Deed.{Deed}
@@ -39,3 +39,7 @@ heard_deed w p actor deed = None
 -- the notice of another's change to player p, given the world w before it
 abbrev pub heard_line : State → Change → ℕ → Option (List ℕ)
 heard_line w e p = if nat_eq p e.actor then None else heard_deed w p e.actor e.deed
+
+-- a notice names the version of the change
+abbrev pub notice_text : ℕ → List ℕ → List ℕ
+notice_text n line = codes "(" ++ decimal n ++ codes ") " ++ line

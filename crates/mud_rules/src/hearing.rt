@@ -1,122 +1,142 @@
 //! Notices: the lines by which players hear of the changes of others.
 
-ghost use Rattle.std.specs.Prelude.{◌≡◌, ◌++◌, IfOk, codes, false, string_bytes};
+ghost use Rattle.std.specs.Prelude.{◌≡◌, ◌++◌, IfOk, OnOk, Some, codes, decimal, false, if◌then◌else◌, string_bytes};
+ghost use Rattle.std.specs.Prelude.{None, is_some};
 ghost use Rattle.std.specs.Option.{option_map, option_map_or};
 ghost use Rattle.mud_world.specs.State.{is_number, place_of, destination_of};
-ghost use Rattle.mud_rules.specs.HeardLine.{moved_line, heard_line};
+ghost use Rattle.mud_rules.specs.HeardLine.{moved_line, heard_deed, heard_line, notice_text};
 ghost use Rattle.mud_rules.specs.ObjectLists.{first_name};
 
-use crate::listing::first_name;
+use crate::listing::{first_name, push_about};
 use crate::moving::together;
 use mud_world::{Change, Deed, World};
-use std::alloc::{AllocError, Global};
+use std::alloc::AllocError;
 
-// Returns the line if it is heard, and `None` otherwise.
-macro_rules! if_heard {
-    ($heard:expr, $line:expr) => {
-        if $heard { Ok(Some($line?)) } else { Ok(None) }
-    };
-}
+// The capacity for most notices.
+const NOTICE_BYTES: usize = 80;
 
-/// Returns the notice that a player gets of another's change, given the world before it. A player gets no notice of a
-/// change out of hearing, and none of its own changes (docs/COMMANDS.md, "What others hear").
-pub fn heard(
-    alloc: Global,
+/// Appends the notice that a player gets of another's change, given the change's version and the world before it.
+/// Returns whether the player gets one; if not, the text is unchanged. A player gets no notice of a change out of
+/// hearing, and none of its own changes (docs/COMMANDS.md, "What others hear"). The only error is out of memory.
+pub fn push_notice(
+    out: &mut String,
+    version: u32,
     world: &World,
     change: &Change,
     player: u32,
-) -> Result<Option<String>, AllocError>
-    ensures { IfOk result (λ line. option_map string_bytes line
-        ≡ heard_line world.now change.now player) }
+) -> Result<bool, AllocError>
+    ensures hears { IfOk result (λ hears. (if hears then Some (string_bytes out.new) else None)
+        ≡ option_map (λ line. string_bytes out.old ++ notice_text version line)
+        (heard_line world.now change.now player)) }
+    ensures silent { IfOk result (λ hears. hears ≡ false → string_bytes out.new ≡ string_bytes out.old) }
 {
     let actor = change.actor;
     if player == actor {
-        return Ok(None);
+        return Ok(false);
     }
+    if !is_heard(world, change, player) {
+        return Ok(false);
+    }
+    push_version(out, version)?;
     let who = first_name(world, actor);
-    let here = together(world, actor, player);
     match &change.deed {
-        Deed::Say(text) => {
-            if_heard!(here, sentence(alloc, who, " says, \"", text.as_str(), "\""))
+        Deed::Say(text) => push_line(out, who, " says, \"", text.as_str(), "\"")?,
+        Deed::Emote(text) => push_line(out, who, " ", text.as_str(), "")?,
+        Deed::Move { thing, to } => push_moved(out, world, player, actor, *thing, *to)?,
+        Deed::Walk { exit } if together(world, actor, player) => {
+            push_line(out, who, " leaves by ", first_name(world, *exit), ".")?;
         }
-        Deed::Emote(text) => if_heard!(here, sentence(alloc, who, " ", text.as_str(), "")),
-        Deed::Move { thing, to } => {
-            if_heard!(here, moved_line(alloc, world, player, actor, *thing, *to))
-        }
-        Deed::Walk { exit } if here => {
-            let line = sentence(alloc, who, " leaves by ", first_name(world, *exit), ".")?;
-            Ok(Some(line))
-        }
+        Deed::Walk { .. } => push_arrival(out, who)?,
+        Deed::Player(name) => push_arrival(out, name.as_str())?,
+        _ => {}
+    }
+    Ok(true)
+}
+
+// Returns whether a player hears of another's change, given the world before it.
+fn is_heard(world: &World, change: &Change, player: u32) -> bool
+    ensures { result ≡ is_some (heard_deed world.now player change.now.actor change.now.deed) }
+{
+    match &change.deed {
+        Deed::Say(_) | Deed::Emote(_) | Deed::Move { .. } => together(world, change.actor, player),
         Deed::Walk { exit } => {
-            if_heard!(comes_to(world, player, *exit), arrival_line(alloc, who))
+            together(world, change.actor, player) || comes_to(world, player, *exit)
         }
-        Deed::Player(name) => {
-            if_heard!(world.is_in(player, 0), arrival_line(alloc, name.as_str()))
-        }
-        _ => Ok(None),
+        Deed::Player(_) => world.is_in(player, 0),
+        _ => false,
     }
 }
 
-// Returns a name, words, and another name.
-fn sentence(
-    alloc: Global,
+// Appends the version of a notice.
+fn push_version(out: &mut String, version: u32) -> Result<(), AllocError>
+    ensures { OnOk result (string_bytes out.new ≡ string_bytes out.old ++ codes "(" ++ decimal version ++ codes ") ") }
+{
+    out.reserve(NOTICE_BYTES)?;
+    push_about(out, "(", version)?;
+    out.push_str(") ")
+}
+
+// Appends a name, words, and another name.
+fn push_line(
+    out: &mut String,
     who: &str,
     does: &str,
     what: &str,
     end: &str,
-) -> Result<String, AllocError>
-    ensures { IfOk result (λ line. string_bytes line ≡ who.now ++ does.now ++ what.now ++ end.now) }
+) -> Result<(), AllocError>
+    ensures { OnOk result (string_bytes out.new
+        ≡ string_bytes out.old ++ who.now ++ does.now ++ what.now ++ end.now) }
 {
     let front = who.len().saturating_add(does.len());
     let back = what.len().saturating_add(end.len());
-    let mut line = String::with_capacity(alloc, front.saturating_add(back))?;
-    line.push_str(who)?;
-    line.push_str(does)?;
-    line.push_str(what)?;
-    line.push_str(end)?;
-    Ok(line)
+    out.reserve(front.saturating_add(back))?;
+    out.push_str(who)?;
+    out.push_str(does)?;
+    out.push_str(what)?;
+    out.push_str(end)
 }
 
-// Returns a name, words, a second name, more words, a third name and a full stop.
-fn said_of(
-    alloc: Global,
+// Appends a name, words, a second name, more words, a third name and a full stop.
+fn push_said_of(
+    out: &mut String,
     who: &str,
     does: &str,
     what: &str,
     end: &str,
     whom: &str,
-) -> Result<String, AllocError>
-    ensures { IfOk result (λ line. string_bytes line
-        ≡ who.now ++ does.now ++ what.now ++ end.now ++ whom.now ++ codes ".") }
+) -> Result<(), AllocError>
+    ensures { OnOk result (string_bytes out.new
+        ≡ string_bytes out.old ++ who.now ++ does.now ++ what.now ++ end.now ++ whom.now ++ codes ".") }
 {
-    let mut line = sentence(alloc, who, does, what, end)?;
-    line.push_str(whom)?;
-    line.push_str(".")?;
-    Ok(line)
+    push_line(out, who, does, what, end)?;
+    out.push_str(whom)?;
+    out.push_str(".")
 }
 
-fn moved_line(
-    alloc: Global,
+// Appends the line of a thing that goes from the actor to the actor itself, to its room, to a thing or to a player.
+fn push_moved(
+    out: &mut String,
     world: &World,
     player: u32,
     actor: u32,
     thing: u32,
     to: u32,
-) -> Result<String, AllocError>
-    ensures { IfOk result (λ line. string_bytes line ≡ moved_line world.now player actor thing to) }
+) -> Result<(), AllocError>
+    ensures { OnOk result (string_bytes out.new
+        ≡ string_bytes out.old ++ moved_line world.now player actor thing to) }
 {
     let who = first_name(world, actor);
     let what = first_name(world, thing);
     if to == actor {
-        sentence(alloc, who, " takes ", what, ".")
+        push_line(out, who, " takes ", what, ".")
     } else if world.is_in(actor, to) {
-        sentence(alloc, who, " drops ", what, ".")
+        push_line(out, who, " drops ", what, ".")
     } else if world.is_thing(to) {
-        said_of(alloc, who, " puts ", what, " in ", first_name(world, to))
+        push_said_of(out, who, " puts ", what, " in ", first_name(world, to))
     } else if to == player {
-        sentence(alloc, who, " gives ", what, " to you.")
+        push_line(out, who, " gives ", what, " to you.")
     } else {
-        said_of(alloc, who, " gives ", what, " to ", first_name(world, to))
+        push_said_of(out, who, " gives ", what, " to ", first_name(world, to))
     }
 }
 
@@ -131,8 +151,10 @@ fn comes_to(world: &World, player: u32, exit: u32) -> bool
     }
 }
 
-fn arrival_line(alloc: Global, name: &str) -> Result<String, AllocError>
-    ensures { IfOk result (λ line. string_bytes line ≡ name.now ++ codes " arrives.") }
+// Appends the line of a player who arrives.
+fn push_arrival(out: &mut String, name: &str) -> Result<(), AllocError>
+    ensures { OnOk result (string_bytes out.new ≡ string_bytes out.old ++ name.now ++ codes " arrives.") }
 {
-    format!(in alloc; "{name} arrives.")
+    out.push_str(name)?;
+    out.push_str(" arrives.")
 }

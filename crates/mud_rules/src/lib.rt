@@ -5,8 +5,9 @@
 //!   a player to become, or the refusal with the least number.
 //! - [`local_match`], [`room_match`] and [`player_match`] find the object that a text means.
 //! - [`is_question`] recognizes the lines that change nothing, and [`is_quit`] the line that ends a session.
-//! - [`reply_text`], [`welcome_text`], [`refusal_text`] and [`show`] return the replies to a player, and [`heard`] the
-//!   notice to another player. A [`Journey`] and the history are requested here, and answered elsewhere.
+//! - [`reply_text`], [`welcome_text`], [`refusal_text`] and [`show`] return the replies to a player, and
+//!   [`push_notice`] appends the notice to another player. A [`Journey`] and the history are requested here, and
+//!   answered elsewhere.
 //!
 //! Nothing here changes a world; the caller applies a change by `World::apply`.
 //!
@@ -63,7 +64,7 @@ mod verb;
 mod verdict;
 
 pub use answers::show;
-pub use hearing::heard;
+pub use hearing::push_notice;
 pub use line::{decide, is_question, is_quit};
 pub use listing::push_about;
 pub use matching::{Match, local_match, player_match, room_match};

@@ -84,7 +84,7 @@ fn write_all<J: HallName, D: Disk + Drop, R: Wait>(
         match writer.write(&state.hall) {
             Ok(receipt) => {
                 state.gate.publish(rt, &receipt);
-                state.note_synced(rt);
+                state.note_synced();
                 state.control.roster.wake_all(rt);
             }
             Err(fault) => {

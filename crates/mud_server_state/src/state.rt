@@ -144,8 +144,8 @@ impl<H, P, J> ServerState<H, P, Gate<J>> {
     }
 
     /// Records for the host how many entries the journal has synced.
-    pub fn note_synced<R: Wait>(&self, rt: &R) {
-        let synced = self.gate.synced_count(rt) as u64;
+    pub fn note_synced(&self) {
+        let synced = self.gate.synced_count() as u64;
         self.control.tally.note_synced(synced);
     }
 }
@@ -187,7 +187,7 @@ impl<J: HallName> ServerState<Hall<J>, Places<J>, Gate<J>> {
         let loaded = self.hall.loaded_count();
         self.control.tally.begin_volume(volume, u64::from(loaded));
         if !self.gate.is_open() {
-            self.note_synced(rt);
+            self.note_synced();
         }
         self.warn_if_nearly_full(rt, loaded as usize);
     }

@@ -36,8 +36,8 @@ pub(crate) const CLOSE_TRIES: u32 = 80;
 pub(crate) const CLOSE_MILLISECONDS: u64 = 50;
 
 // Returns the number of synced entries, as far as sessions count.
-pub(crate) fn synced_entries<R: Wait, J: HallName>(rt: &R, state: &StateOf<J>) -> u32 {
-    u32::try_from(state.gate.synced_count(rt)).unwrap_or(u32::MAX)
+pub(crate) fn synced_entries<J: HallName>(state: &StateOf<J>) -> u32 {
+    u32::try_from(state.gate.synced_count()).unwrap_or(u32::MAX)
 }
 
 // Returns the reason of a session whose client has this end.
@@ -409,7 +409,7 @@ impl<J: HallName> Connection<J> {
     /// Returns whether the session continues. The number of synced entries is read first, so that under the lock the
     /// thread waits only for the other side. The hall's lock is not taken, however many changes there are.
     pub(crate) fn look<R: Wait + Clock>(&self, rt: &R, state: &StateOf<J>) -> bool {
-        let most = synced_entries(rt, state);
+        let most = synced_entries(state);
         let mut guard = self.client.lock(rt);
         let Some(before) = guard.take() else {
             return false;

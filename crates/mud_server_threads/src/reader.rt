@@ -2,7 +2,7 @@
 
 ghost use Rattle.std.specs.Prelude.{◌≤◌, length, IfOk};
 
-use crate::connection::{Connection, StateOf};
+use crate::connection::{Connection, StateOf, synced_entries};
 use crate::habits::Habits;
 use crate::quay::{Guest, Quay};
 use crate::server::Server;
@@ -263,8 +263,8 @@ impl<'a, J: HallName, R: Threads + Wait + Log + Clock + Sync> Reading<'a, J, R> 
     }
 
     // Feeds bytes to the session, under its lock. It asks for the sync of an accepted change before it sends the
-    // output, because a send may wait for the other side. Returns whether lines wait, or `None` if the session does not
-    // continue.
+    // output, because a send may wait for the other side. A question is answered by the synced entries, so it waits for
+    // no sync. Returns whether lines wait, or `None` if the session does not continue.
     //
     // If the session should end, it sends that in place of an answer. It sends the host's announcements first, because
     // a player who types without a pause leaves the notice thread no moment in which the lock is free.
@@ -283,7 +283,8 @@ impl<'a, J: HallName, R: Threads + Wait + Log + Clock + Sync> Reading<'a, J, R> 
         }
         let before = guard.take()?;
         let begun = now(rt);
-        let (after, outgoing) = before.feed(rt, &state.hall, state.limits.workers, bytes);
+        let (workers, most) = (state.limits.workers, synced_entries(state));
+        let (after, outgoing) = before.feed(rt, &state.hall, workers, most, bytes);
         let took = now(rt).saturating_sub(begun);
         *guard = Some(after);
         self.tell(&outgoing);

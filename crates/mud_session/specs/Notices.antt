@@ -7,8 +7,7 @@ use Rattle.mud_world.specs.State.{State as World}
 use Rattle.mud_world.specs.declared.change.Change.{Change}
 use Rattle.mud_world.specs.declared.refusal.Refusal.{Refusal}
 use Rattle.mud_rules.specs.Replies.{reply_text, refusal_text, welcome_text}
-use Rattle.mud_rules.specs.HeardLine.{heard_line}
-use Rattle.mud_hall.specs.Notices.{notice_text}
+use Rattle.mud_rules.specs.HeardLine.{heard_line, notice_text}
 use Rattle.mud_hall.specs.Desk.{DeskState}
 use Rattle.mud_hall.specs.Answers.{Answered, Answers}
 use Rattle.mud_session.specs.Session.{with_version, wire_text}

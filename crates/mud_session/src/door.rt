@@ -51,6 +51,10 @@ pub trait Door {
         ensures capacity { (state self.new).capacity ≡ (state self.old).capacity }
         ensures told { (state self.old).desk.told ≡ map string_bytes result.items ++ (state self.new).desk.told }
         ensures rest { (state self.new).desk ≡ with_told (state self.old).desk (state self.old).pending };
+
+    /// Takes the memory of notices that were sent, and may use it for the notices to come. It does not allocate.
+    fn reuse(&mut self, sent: Vec<String>)
+        ensures { state self.new ≡ state self.old };
 }
 
 impl Door for Solo {
@@ -73,4 +77,6 @@ impl Door for Solo {
     fn take_told(&mut self) -> Vec<String> {
         Solo::take_told(self)
     }
+
+    fn reuse(&mut self, _sent: Vec<String>) {}
 }

@@ -184,6 +184,7 @@ fn serve<X: Threads + Wait + Sync, D: Door, W: Write>(
     }
     let text = session.take_out();
     if sink.write_all(text.as_slice()) {
+        session.reuse(text);
         Ok(())
     } else {
         Err(ScriptFault::Write)

@@ -123,4 +123,8 @@ impl<'h, J: HallName> Door for Seat<'h, J> {
     fn take_told(&mut self) -> Vec<String> {
         self.desk.take_told()
     }
+
+    fn reuse(&mut self, sent: Vec<String>) {
+        self.desk.reuse(sent);
+    }
 }

@@ -91,12 +91,16 @@ impl Session {
         self.out.is_empty()
     }
 
-    /// Returns the output since the last call. It does not allocate.
+    /// Returns the output since the last call. It does not allocate. Without output its memory stays here.
     pub fn take_out(&mut self) -> Vec<u8>
         ensures text { result.items ≡ self.old.out }
         ensures rest { self.new ≡ record self.old { out = [] } }
     {
-        std::mem::replace(&mut self.out, Vec::new(self.alloc))
+        let mut out = Vec::new(self.alloc);
+        if !self.out.is_empty() {
+            std::mem::swap(&mut self.out, &mut out);
+        }
+        out
     }
 
     /// Takes the memory of an output that was sent, and uses it for the output to come. The memory of a long output is
@@ -312,6 +316,7 @@ impl Session {
         for line in &lines {
             self.send(line.as_str())?;
         }
+        door.reuse(lines);
         Ok(())
     }
 

@@ -9,7 +9,8 @@ ghost use Rattle.mud_rules.specs.inner.Outcome.{IsJourney, IsQuestion};
 use crate::rows::{digit, push_text, same, split_word};
 use mud_guide::{Answer, Workers, meet, meet_alone, route, route_alone};
 use mud_rules::{
-    Journey, Query, Verdict, View, decide, heard, refusal_text, reply_text, show, welcome_text,
+    Journey, Query, Verdict, View, decide, push_notice, refusal_text, reply_text, show,
+    welcome_text,
 };
 use mud_search::OpenGate;
 use mud_words::parse;
@@ -145,7 +146,7 @@ fn push_reply(
     out.push_str(reply_text(alloc, world, change)?.as_str())
 }
 
-// Appends the notice of it to another player.
+// Appends the notice of it to another player, without its version.
 fn push_heard(
     alloc: Global,
     world: &World,
@@ -153,9 +154,13 @@ fn push_heard(
     hearer: u32,
     out: &mut String,
 ) -> Result<(), AllocError> {
-    match heard(alloc, world, change, hearer)? {
-        Some(text) => out.push_str(text.as_str()),
-        None => Ok(()),
+    let mut notice = String::new(alloc);
+    if !push_notice(&mut notice, 7, world, change, hearer)? {
+        return Ok(());
+    }
+    match notice.as_str().strip_prefix("(7) ") {
+        Some(line) => out.push_str(line),
+        None => out.push_str("no version 7"),
     }
 }
 

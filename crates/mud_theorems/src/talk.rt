@@ -219,7 +219,7 @@ impl<J: HallName, P: Peer + Drop, B: Room> Talk<J, P, B> {
         requires { ∥ IsTalking (length J.cells) J.loaded (P.traffic peer) told client bytes.now [] ∥₁ }
         ensures { MatchStep (λ talk. P.name talk.peer ≡ P.name peer) (λ line. P.name line.peer ≡ P.name peer) result }
     {
-        let (client, outgoing) = client.feed(rt, &shared.hall, WORKERS, bytes);
+        let (client, outgoing) = client.feed(rt, &shared.hall, WORKERS, u32::MAX, bytes);
         Talk::tell(rt, shared, client, peer, told, outgoing)
     }
 

@@ -22,13 +22,13 @@ other : (b c : ℕ) → b ≢ c → eqb b c ≡ false
 other b c differs = elim (cases_eq b c) [ inl same ↦ absurd (differs same) | inr _ ↦ grind (arith, nat_tests) ]
 
 -- a plain byte, outside and inside quotes
-plain_goes : (v : List ℕ) (b : ℕ) (rest : List ℕ) → b ≢ SPACE → b ≢ QUOTE → b ≢ BACKSLASH
+pub plain_goes : (v : List ℕ) (b : ℕ) (rest : List ℕ) → b ≢ SPACE → b ≢ QUOTE → b ≢ BACKSLASH
     → goes v false false (b ∷ rest) ≡ goes (v ++ b ∷ []) false false rest
 plain_goes v b rest space quote slash =
     rw (other b SPACE space, other b QUOTE quote, other b BACKSLASH slash)
     (onto v b (slice_split is_gap (pieces_from false false rest)))
 
-plain_begins : (b : ℕ) (rest : List ℕ) → b ≢ SPACE → b ≢ QUOTE → b ≢ BACKSLASH
+pub plain_begins : (b : ℕ) (rest : List ℕ) → b ≢ SPACE → b ≢ QUOTE → b ≢ BACKSLASH
     → plain_words (b ∷ rest) ≡ goes (b ∷ []) false false rest
 plain_begins b rest space quote slash =
     rw (other b SPACE space, other b QUOTE quote, other b BACKSLASH slash)

@@ -8,3 +8,5 @@ pub mod CountingLemmas
 pub mod BlankLemmas
 pub mod JoinLemmas
 pub mod GrammarLemmas
+pub mod GapLemmas
+pub mod PlaceLemmas

@@ -30,6 +30,19 @@ begins_more f g (x ∷ xs) [] d e some more same = absurd (omega arith)
 begins_more f g (x ∷ xs) (y ∷ ys) d e some more same =
     rw (take_rest (x ∷ xs) 1, take_rest (y ∷ ys) 1, (bytes_eq-Decides (lower (g y)) (lower (f x))).1 (sym same)) refl
 
+-- the first word of the phrase agrees, and the others decide
+pub begins_word : {X Y : Type 0} (f : X → List ℕ) (g : Y → List ℕ) (word : List ℕ) (xs : List X) (ys : List Y) (e : Y)
+    → 0 < length ys → lower word ≡ lower (g (get_or ys 0 e))
+    → begins (word ∷ map f xs) (map g ys) ≡ begins (map f xs) (map g (take (length ys - 1) (drop 1 ys)))
+begins_word f g word xs [] e more same = absurd (omega arith)
+begins_word f g word xs (y ∷ ys) e more same =
+    rw (take_rest (y ∷ ys) 1, (bytes_eq-Decides (lower (g y)) (lower word)).1 (sym same)) refl
+
+pub word_and_others : {X : Type 0} (f : X → List ℕ) (xs : List X) (x : X) (word : List ℕ) → 0 < length xs
+    → x ≡ get_or xs 0 x → word ≡ f x → word ∷ map f (take (length xs - 1) (drop 1 xs)) ≡ map f xs
+word_and_others f [] x word some is text = absurd (omega arith)
+word_and_others f (y ∷ ys) x word some is text = rw (take_rest (y ∷ ys) 1, text, is) refl
+
 -- the preposition at the first word from place i on
 found : (i : ℕ) (ws : List (List ℕ)) (o : Option Phrase) (prep : Prep) (len : ℕ) → 0 < length ws → o ≡ phrase_at ws
     → Some (prep, len) ≡ option_map phrase_len o

@@ -11,7 +11,7 @@ use Rattle.mud_words.specs.declared.codes.TheConstants.{SPACE}
 use Rattle.mud_words.specs.declared.piece.Piece.{Piece}
 use Rattle.mud_words.specs.declared.piece.Piece.TheVariants.{Gap, Mark, Char}
 use Rattle.mud_words.specs.inner.Pieces.{piece, quoted_after, escaped_after, is_gap, pieces_from, pieces, texts_of}
-use Rattle.mud_words.specs.Words.{plain_words, after_first_word, is_space, without_front, spelled_out, words}
+use Rattle.mud_words.specs.Words.{plain_words, after_first_word, is_space, without_front, spelled_out}
 use Rattle.mud_words.specs.inner.Cuts.{goes_on, rest_words}
 use Rattle.mud_words.proofs.PieceLemmas.{piece-low, of_char, from_gap, drop-past_one}
 use Rattle.mud_words.proofs.CuttingLemmas.{onto, more_mark}
@@ -88,7 +88,7 @@ past_here text at b quoted escaped p quoted' escaped' n other =
     ∙ ap (from_gap (p ∷ pieces_from quoted' escaped' (drop (at + 1) text))) (cons_here text at b n.within n.here)
     ∙ past p b (pieces_from quoted' escaped' (drop (at + 1) text)) (drop (at + 1) text) other)
 
-one_more : (text : List ℕ) (start at b : ℕ) → start ≤ at → at < length text → b ≡ get_or text at b
+pub one_more : (text : List ℕ) (start at b : ℕ) → start ≤ at → at < length text → b ≡ get_or text at b
     → slice_range text start (at + 1) ≡ slice_range text start at ++ b ∷ []
 one_more text start at b le lt here =
     let one : at + 1 - start ≡ at - start + 1 = omega arith in
@@ -128,7 +128,7 @@ ascii_here text at b quoted escaped p quoted' escaped' n other =
     let same : b ≡ get_or text at 0 = n.here ∙ get_or_default text at b 0 n.within in
     omega arith
 
-none_left : (text : List ℕ) (at : ℕ) → slice_range text at at ≡ []
+pub none_left : (text : List ℕ) (at : ℕ) → slice_range text at at ≡ []
 none_left text at = let none : at - at ≡ 0 = omega arith in ap (λ (n : ℕ). take n (drop at text)) none
 
 -- a quote or a backslash
@@ -245,10 +245,17 @@ front_taken ws text text' is = ap (λ (l : List (List ℕ)). ws ++ l) (ap plain_
 pub front_trimmed : (text text' : List ℕ) → text' ≡ without_front text → Trimmed text'
 front_trimmed text text' is = rw is (without_front-trimmed text)
 
--- the words of a line without shorthand
-pub line_begun : (line text word rest : List ℕ) → text ≡ without_front line → 0 < length text → spelled_out text ≡ text
-    → rest_words (Some []) (pieces text) ≡ word ∷ plain_words rest → words line ≡ word ∷ plain_words rest
-unfolding words
-line_begun line text word rest is some plain taken =
-    ap (λ (t : List ℕ). plain_words (spelled_out t)) (sym is) ∙ ap plain_words plain
-    ∙ words_begun text (front_trimmed line text is) some ∙ taken
+-- a text without leading spaces stays
+kept : (text : List ℕ) → begins_blank text ≡ false → without_front text ≡ text
+kept [] bare = refl
+kept (b ∷ bs) bare = rw bare refl
+
+pub front_kept : (text text' : List ℕ) → text' ≡ without_front text → without_front text' ≡ text'
+front_kept text text' is = let trim : Trimmed text' = front_trimmed text text' is in kept text' trim.trimmed
+
+-- the words of a line without shorthand and leading spaces
+pub line_begun : (line word rest : List ℕ) → without_front line ≡ line → 0 < length line → spelled_out line ≡ line
+    → rest_words (Some []) (pieces line) ≡ word ∷ plain_words rest
+    → plain_words (spelled_out line) ≡ word ∷ plain_words rest
+line_begun line word rest is some plain taken =
+    ap plain_words plain ∙ words_begun line (front_trimmed line line (sym is)) some ∙ taken

@@ -36,7 +36,7 @@
 //! - The preposition that counts is the longest at the earliest place.
 #![tactic(auto)]
 
-ghost use Rattle.std.specs.Prelude.{◌≡◌, ◌↔◌, [], ◌∷◌, IsTrue, map, IfOk, IfSome, MatchOption};
+ghost use Rattle.std.specs.Prelude.{◌≡◌, ◌<◌, ◌↔◌, [], ◌∷◌, length, IsTrue, map, IfOk};
 ghost use Rattle.std.specs.Cow.{cow_str_bytes};
 ghost use Rattle.mud_words.specs.Words.{words, plain_words, is_blank, without_front, after_first_word, spelled_out};
 ghost use Rattle.mud_words.specs.Line.{line_of};
@@ -51,7 +51,7 @@ mod spaces;
 mod split;
 
 use crate::cut::{first_word, push_words};
-use crate::spaces::{shorthand, without_front};
+use crate::spaces::{shorthand, without_back, without_front};
 use crate::split::{blank, line_with_verb};
 use std::alloc::{AllocError, Global};
 use std::borrow::CowStr;
@@ -123,10 +123,13 @@ pub fn words(alloc: Global, line: &str) -> Result<Vec<CowStr<'_, Global>>, Alloc
     ensures { IfOk result (λ ws. map cow_str_bytes ws.items ≡ words line.now) }
 {
     let mut words = Vec::new(alloc);
-    if let Some((verb, text)) = verb_and_text(alloc, line)? {
-        words.push(verb)?;
-        push_words(alloc, text, &mut words)?;
+    let trimmed = without_front(line);
+    if trimmed.is_empty() {
+        return Ok(words);
     }
+    let (verb, text) = verb_and_text(alloc, trimmed)?;
+    words.push(verb)?;
+    push_words(alloc, text, without_back(text), &mut words)?;
     Ok(words)
 }
 
@@ -139,32 +142,26 @@ pub fn words(alloc: Global, line: &str) -> Result<Vec<CowStr<'_, Global>>, Alloc
 pub fn parse(alloc: Global, line: &str) -> Result<Parsed<'_>, AllocError>
     ensures { IfOk result (λ p. line_of p ≡ parse_of line.now) }
 {
-    match verb_and_text(alloc, line)? {
-        Some((verb, text)) => line_with_verb(alloc, verb, text),
-        None => Ok(blank(alloc)),
+    let trimmed = without_front(line);
+    if trimmed.is_empty() {
+        return Ok(blank(alloc));
     }
+    let (verb, text) = verb_and_text(alloc, trimmed)?;
+    line_with_verb(alloc, verb, text)
 }
 
-// Returns the first word of a line, after its shorthand is spelled out, and the text after the word. A blank line has
-// no first word.
-#[tactic(auto, unfolding(crate::specs::Words::words))]
-fn verb_and_text(
-    alloc: Global,
-    line: &str,
-) -> Result<Option<(CowStr<'_, Global>, &str)>, AllocError>
-    ensures words { IfOk result (λ v. MatchOption v (without_front line.now ≡ [])
-        (λ v. words line.now ≡ cow_str_bytes v.0 ∷ plain_words v.1.now)) }
-    ensures rest { IfOk result (λ v. IfSome v
-        (λ v. v.1.now ≡ after_first_word (spelled_out (without_front line.now)))) }
+// Returns the first word of a line without leading spaces, after its shorthand is spelled out, and the text after the
+// word.
+fn verb_and_text(alloc: Global, line: &str) -> Result<(CowStr<'_, Global>, &str), AllocError>
+    requires begun { without_front line.now ≡ line.now }
+    requires some { 0 < length line.now }
+    ensures words { IfOk result (λ v. plain_words (spelled_out line.now) ≡ cow_str_bytes v.0 ∷ plain_words v.1.now) }
+    ensures rest { IfOk result (λ v. v.1.now ≡ after_first_word (spelled_out line.now)) }
 {
-    let line = without_front(line);
-    if line.is_empty() {
-        return Ok(None);
-    }
     if let Some((verb, text)) = shorthand(line) {
-        return Ok(Some((CowStr::Borrowed(verb), text)));
+        return Ok((CowStr::Borrowed(verb), text));
     }
-    Ok(Some(first_word(alloc, line)?))
+    first_word(alloc, line)
 }
 
 /// Returns whether a line has no words: it is empty, or all spaces. A lone backslash is a word, so such a line is not

@@ -1,4 +1,4 @@
-ghost use Rattle.std.specs.Prelude.{◌≡◌, ◌≤◌, ℕ, List, ◌∷◌, IsTrue, IfSome, length, map};
+ghost use Rattle.std.specs.Prelude.{◌≡◌, ◌+◌, ◌≤◌, ℕ, List, ◌∷◌, IsTrue, IfSome, length, map};
 ghost use Rattle.std.specs.Char.{to_ascii_lowercase};
 ghost use Rattle.std.specs.Cow.{cow_str_bytes};
 ghost use Rattle.std.specs.List.{find};
@@ -39,13 +39,14 @@ fn phrase_at(words: &[CowStr<'_, Global>]) -> Option<(Prep, usize)>
     ensures value { result ≡ option_map phrase_len (phrase_at (map cow_str_bytes words.now)) }
     ensures within { IfSome result (λ p. p.1 ≤ length words.now) }
 {
-    let [word, ..] = words else {
+    let [word, others @ ..] = words else {
         return None;
     };
+    let word = word.as_str();
     let [letter, ..] = word.as_bytes() else {
         return None;
     };
-    first_said(phrases_with(letter.to_ascii_lowercase()), words)
+    first_said(phrases_with(letter.to_ascii_lowercase()), word, others)
 }
 
 // The phrases that begin with each letter, longer ones first.
@@ -114,18 +115,34 @@ fn phrases_with(letter: u8) -> &'static [(Prep, &'static [&'static str])]
     }
 }
 
-// Returns the first of the phrases that the words begin with, and the number of its words.
-fn first_said(phrases: &[(Prep, &[&str])], words: &[CowStr<'_, Global>]) -> Option<(Prep, usize)>
+// Returns the first of the phrases that a word and those after it begin with, and the number of its words.
+fn first_said(
+    phrases: &[(Prep, &[&str])],
+    word: &str,
+    others: &[CowStr<'_, Global>],
+) -> Option<(Prep, usize)>
     ensures value { result ≡ option_map phrase_len
-        (find (λ p. begins (map cow_str_bytes words.now) p.words) (map row_shown phrases.now)) }
-    ensures within { IfSome result (λ p. p.1 ≤ length words.now) }
+        (find (λ p. begins (word.now ∷ map cow_str_bytes others.now) p.words) (map row_shown phrases.now)) }
+    ensures within { IfSome result (λ p. p.1 ≤ length others.now + 1) }
 {
     for (prep, phrase) in phrases {
-        if begins(words, phrase) {
+        if begins_with(word, others, phrase) {
             return Some((*prep, phrase.len()));
         }
     }
     None
+}
+
+// Returns whether a word and those after it begin with the words of a phrase, ignoring case. The first word mostly
+// differs from that of the phrase.
+fn begins_with(word: &str, others: &[CowStr<'_, Global>], phrase: &[&str]) -> bool
+    ensures value { result ≡ begins (word.now ∷ map cow_str_bytes others.now) (texts phrase.now) }
+    ensures within { IsTrue result → length phrase.now ≤ length others.now + 1 }
+{
+    match phrase {
+        [] => true,
+        [said, more_said @ ..] => word.eq_ignore_ascii_case(said) && begins(others, more_said),
+    }
 }
 
 // Returns whether the words begin with those of a phrase, ignoring case.

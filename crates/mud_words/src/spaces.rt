@@ -5,14 +5,20 @@ ghost use Rattle.mud_words.specs.Words.{without_front, without_back, spelled_out
 pub(crate) fn without_front(text: &str) -> &str
     ensures { result.now ≡ without_front text.now }
 {
-    text.trim_start_matches(' ')
+    match text.as_bytes() {
+        [b' ', ..] => text.trim_start_matches(' '),
+        _ => text,
+    }
 }
 
 /// Returns the text without its trailing spaces.
 pub(crate) fn without_back(text: &str) -> &str
     ensures { result.now ≡ without_back text.now }
 {
-    text.trim_end_matches(' ')
+    match text.as_bytes() {
+        [.., b' '] => text.trim_end_matches(' '),
+        _ => text,
+    }
 }
 
 /// Returns the verb that the first character of a line stands for, if it is shorthand, and the text after that
@@ -22,14 +28,10 @@ pub(crate) fn shorthand(line: &str) -> Option<(&'static str, &str)>
     ensures rest { IfSome result (λ v. after_first_word (spelled_out line.now) ≡ v.1.now) }
     ensures none { IfNone result (spelled_out line.now ≡ line.now) }
 {
-    if let Some(text) = line.strip_prefix('"') {
-        return Some(("say", text));
+    match line.as_bytes() {
+        [b'"', ..] => Some(("say", &line[1..])),
+        [b':', ..] => Some(("emote", &line[1..])),
+        [b';', ..] => Some(("eval", &line[1..])),
+        _ => None,
     }
-    if let Some(text) = line.strip_prefix(':') {
-        return Some(("emote", text));
-    }
-    if let Some(text) = line.strip_prefix(';') {
-        return Some(("eval", text));
-    }
-    None
 }

@@ -1,9 +1,10 @@
-ghost use Rattle.std.specs.Prelude.{◌≡◌, ℕ, List, [], ◌∷◌, ◌++◌, IsFalse, IsTrue, map, string_bytes, IfOk, IfSome};
+ghost use Rattle.std.specs.Prelude.{◌≡◌, ◌≤◌, ◌+◌, ◌-◌, ◌^◌, min, ℕ, List, [], ◌∷◌, IsFalse, IsTrue, map, length, take};
+ghost use Rattle.std.specs.Prelude.{drop, sum_by, string_bytes, None, IfOk};
 ghost use Rattle.std.specs.Cow.{cow_str_bytes};
 ghost use Rattle.mud_words.specs.Words.{plain_words, without_front, without_back};
 ghost use Rattle.std.specs.Str.{str_to_ascii_lowercase as lower};
 ghost use Rattle.mud_words.specs.Line.{line_of};
-ghost use Rattle.mud_words.specs.Parse.{line_of_words};
+ghost use Rattle.mud_words.specs.Parse.{line_of_words, round};
 ghost use Rattle.mud_words.specs.inner.Spots.{line_with, split, join_words};
 
 use crate::cut::push_words;
@@ -23,9 +24,14 @@ pub(crate) fn line_with_verb<'a>(
         ≡ line_of_words (cow_str_bytes verb.entry ∷ plain_words text.now) (without_back (without_front text.now))) }
 {
     let verb = to_lower(alloc, verb)?;
+    let text = without_front(text);
+    if text.is_empty() {
+        return Ok(bare(alloc, verb));
+    }
     let mut args = Vec::new(alloc);
-    push_words(alloc, text, &mut args)?;
-    split(alloc, verb, args, without_back(without_front(text)))
+    let rest = without_back(text);
+    let joined = push_words(alloc, text, rest, &mut args)?;
+    split(alloc, verb, args, rest, joined)
 }
 
 // Returns a word with its ASCII letters in lower case. A word without upper-case letters is not copied.
@@ -56,8 +62,15 @@ fn has_upper(text: &str) -> bool
 pub(crate) fn blank(alloc: Global) -> Parsed<'static>
     ensures { line_of result ≡ line_of_words [] [] }
 {
+    bare(alloc, CowStr::Borrowed(""))
+}
+
+// Returns the parse of a verb alone.
+fn bare<'a>(alloc: Global, verb: CowStr<'a, Global>) -> Parsed<'a>
+    ensures { line_of result ≡ round (cow_str_bytes verb.entry) [] [] None }
+{
     Parsed {
-        verb: CowStr::Borrowed(""),
+        verb,
         args: Vec::new(alloc),
         direct: CowStr::Borrowed(""),
         prep: None,
@@ -72,11 +85,13 @@ fn split<'a>(
     verb: CowStr<'a, Global>,
     args: Vec<CowStr<'a, Global>>,
     rest: &'a str,
+    joined: bool,
 ) -> Result<Parsed<'a>, AllocError>
+    requires { IsTrue joined → rest.now ≡ join_words (map cow_str_bytes args.items) }
     ensures { IfOk result (λ p. line_of p
         ≡ split (cow_str_bytes verb.entry) (map cow_str_bytes args.entry.items) rest.now) }
 {
-    let objects = objects_of(alloc, rest, args.as_slice())?;
+    let objects = objects_of(alloc, rest, args.as_slice(), joined)?;
     Ok(Parsed {
         verb,
         args,
@@ -95,26 +110,32 @@ pub(crate) struct Objects<'a> {
     pub indirect: CowStr<'a, Global>,
 }
 
-/// Returns the objects before and after the preposition that counts. Words that stand in the text with one space
-/// between them are not copied.
+/// Returns the objects before and after the preposition that counts. If the text is the words joined by one space, the
+/// objects are parts of it, and nothing is copied.
 fn objects_of<'a>(
     alloc: Global,
     text: &'a str,
     args: &[CowStr<'a, Global>],
+    joined: bool,
 ) -> Result<Objects<'a>, AllocError>
+    requires { IsTrue joined → text.now ≡ join_words (map cow_str_bytes args.now) }
     ensures { IfOk result (λ o. (verb rest : List ℕ) →
         line_with verb (map cow_str_bytes args.now) rest o ≡ split verb (map cow_str_bytes args.now) rest) }
 {
     let Some(spot) = preposition_of(args) else {
-        let direct = join_in(alloc, text, args)?;
+        let direct = if joined {
+            CowStr::Borrowed(text)
+        } else {
+            join_words(alloc, args)?
+        };
         return Ok(Objects {
             direct,
             prep: None,
             indirect: CowStr::Borrowed(""),
         });
     };
-    let direct = join_words(alloc, &args[..spot.start])?;
-    let indirect = join_words(alloc, &args[spot.end..])?;
+    let direct = words_before(alloc, text, args, spot.start, joined)?;
+    let indirect = words_after(alloc, text, args, spot.end, joined)?;
     Ok(Objects {
         direct,
         prep: Some(spot.prep),
@@ -122,56 +143,42 @@ fn objects_of<'a>(
     })
 }
 
-// Returns the words joined by one space. If the text is just that, it is not copied.
-fn join_in<'a>(
+// Returns the words before a place, joined by one space. If the text is all words joined so, nothing is copied.
+fn words_before<'a>(
     alloc: Global,
     text: &'a str,
     words: &[CowStr<'a, Global>],
+    place: usize,
+    joined: bool,
 ) -> Result<CowStr<'a, Global>, AllocError>
-    ensures { IfOk result (λ text. cow_str_bytes text ≡ join_words (map cow_str_bytes words.now)) }
+    requires joined { IsTrue joined → text.now ≡ join_words (map cow_str_bytes words.now) }
+    requires within { place ≤ length words.now }
+    ensures { IfOk result (λ t. cow_str_bytes t ≡ join_words (map cow_str_bytes (take place words.now))) }
 {
-    if is_joined(text.as_bytes(), words) {
-        return Ok(CowStr::Borrowed(text));
+    let before = &words[..place];
+    if joined && place > 1 {
+        return Ok(CowStr::Borrowed(&text[..room_for(before) - 1]));
     }
-    join_words(alloc, words)
+    join_words(alloc, before)
 }
 
-// Returns whether a text is these words, joined by one space.
-fn is_joined(text: &[u8], words: &[CowStr<'_, Global>]) -> bool
-    ensures { IsTrue result → text.now ≡ join_words (map cow_str_bytes words.now) }
+// Returns the words from a place on, joined by one space. If the text is all words joined so, nothing is copied.
+fn words_after<'a>(
+    alloc: Global,
+    text: &'a str,
+    words: &[CowStr<'a, Global>],
+    place: usize,
+    joined: bool,
+) -> Result<CowStr<'a, Global>, AllocError>
+    requires joined { IsTrue joined → text.now ≡ join_words (map cow_str_bytes words.now) }
+    requires within { place ≤ length words.now }
+    ensures { IfOk result (λ t. cow_str_bytes t ≡ join_words (map cow_str_bytes (drop place words.now))) }
 {
-    let [first, others @ ..] = words else {
-        return text.is_empty();
-    };
-    let Some(mut rest) = behind(text, first.as_bytes()) else {
-        return false;
-    };
-    for word in others {
-        let [b' ', more @ ..] = rest else {
-            return false;
-        };
-        let Some(next) = behind(more, word.as_bytes()) else {
-            return false;
-        };
-        rest = next;
+    let after = &words[place..];
+    if joined && after.len() > 1 {
+        return Ok(CowStr::Borrowed(&text[room_for(&words[..place])..]));
     }
-    rest.is_empty()
-}
-
-// Returns the text behind a word, if it begins with the word. For words this short a loop is cheaper than a comparison
-// of slices.
-fn behind<'t>(text: &'t [u8], word: &[u8]) -> Option<&'t [u8]>
-    ensures { IfSome result (λ rest. text.now ≡ word.now ++ rest.now) }
-{
-    if text.len() < word.len() {
-        return None;
-    }
-    for at in 0..word.len() {
-        if text[at] != word[at] {
-            return None;
-        }
-    }
-    Some(&text[word.len()..])
+    join_words(alloc, after)
 }
 
 /// Returns the words joined by one space. A single borrowed word is not copied.
@@ -205,7 +212,9 @@ fn joined_text(alloc: Global, words: &[CowStr<'_, Global>]) -> Result<String, Al
 }
 
 // Returns the capacity for the joined words: their bytes, and one more for each word.
-fn room_for(words: &[CowStr<'_, Global>]) -> usize {
+fn room_for(words: &[CowStr<'_, Global>]) -> usize
+    ensures { result ≡ min (sum_by (λ word. length (cow_str_bytes word) + 1) words.now) (2 ^ 64 - 1) }
+{
     let mut room: usize = 0;
     for word in words {
         room = room.saturating_add(word.len()).saturating_add(1);

@@ -1,9 +1,9 @@
 -- The state, the notices and the answers of a desk, by their parts.
-use Rattle.std.specs.Prelude.{◌≡◌, ◌≤◌, ℕ, List, ◌++◌, length, take, drop, codes}
+use Rattle.std.specs.Prelude.{◌≡◌, ◌≤◌, ℕ, List, [], ◌∷◌, ◌++◌, length, take, drop, codes, Bool, if◌then◌else◌}
 use Rattle.std.specs.Prelude.{Option, Some, None, IsSomeAnd, IfSome, IsTrue}
 use Rattle.std.specs.Option.{option_map, option_and_then, option_to_list}
 use Rattle.mud_world.specs.State.{State, is_player}
-use Rattle.mud_rules.specs.HeardLine.{heard_line}
+use Rattle.mud_rules.specs.HeardLine.{heard_line, notice_text}
 use Rattle.mud_rules.specs.declared.verdict.Verdict.{Verdict}
 use Rattle.mud_rules.specs.declared.verdict.Verdict.TheVariants.{Ask}
 use Rattle.mud_rules.specs.declared.verdict.Query.TheVariants.{History}
@@ -13,10 +13,15 @@ use Rattle.mud_guide.specs.declared.answer.Answer.{Answer}
 use Rattle.mud_chron.specs.Entry.{Entry}
 use Rattle.mud_cert.specs.Certificate.{Certificate}
 use Rattle.mud_cert.specs.Text.{cert_text}
-use Rattle.mud_hall.specs.Notices.{world_after, notice_text, notices}
+use Rattle.mud_hall.specs.Notices.{world_after, notices}
 use Rattle.mud_hall.specs.Desk.{DeskState}
+use Rattle.mud_hall.specs.declared.desk.Inner.{Inner}
 use Rattle.mud_hall.specs.Answers.{answer_shown, Shows}
 use Rattle.mud_row.specs.Known.{Standing}
+
+-- a line, if it is told
+abbrev pub if_told : Bool → List ℕ → List (List ℕ)
+if_told told line = if told then line ∷ [] else []
 
 -- the notice of change n, if its line is heard
 abbrev pub notice_of : ℕ → Option (List ℕ) → List (List ℕ)
@@ -47,6 +52,13 @@ state_of number player r calls stored = record {
   calls = calls;
   told = stored ++ notices player (take r.at r.list) (drop r.at r.list);
 }
+
+-- the boxed parts of a new desk with this replica
+pub record IsUnused (r : Standing) (inner : Inner) : Type 0 where
+  pub replica : inner.replica ≡ r
+  pub calls : inner.calls.items ≡ []
+  pub told : inner.told.items ≡ []
+  pub traveller : inner.traveller ≡ None
 
 -- the answer in a world at its version, which does not depend on the entries before it; there is none to the question
 -- for those

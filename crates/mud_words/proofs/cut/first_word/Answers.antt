@@ -11,7 +11,8 @@ loop-at-init c = nothing_read _ _ _ _ c.utf8.text refl refl refl
 pub range_from-requires : goal.range_from-requires
 range_from-requires c =
     let n =
-    next c.args.text.now _ c.loop-at.at false false Gap false false c.as_bytes-bytes.ensures.value c.loop-at-test.true
+    next c.args.text.now _ c.loop-at.at false false Gap false false c.as_bytes-byte-items.ensures.value
+    c.loop-at-test.true
     (ap (piece false false) (sym c.in-32.is)) (ap (quoted_after false false) (sym c.in-32.is))
     (ap (escaped_after false) (sym c.in-32.is)) in
     λ _. IsCharBoundary-after_ascii c.args.text.now c.loop-at.at c.utf8.text n.within
@@ -21,7 +22,8 @@ pub returns-in-32-clause-rest : goal.returns-in-32-clause-rest
 returns-in-32-clause-rest c =
     c.range_from.ensures.value
     ∙ gap_rest c.args.text.now [] 0 c.loop-at.at _ false false false false
-    (next c.args.text.now _ c.loop-at.at false false Gap false false c.as_bytes-bytes.ensures.value c.loop-at-test.true
+    (next c.args.text.now _ c.loop-at.at false false Gap false false c.as_bytes-byte-items.ensures.value
+    c.loop-at-test.true
     (ap (piece false false) (sym c.in-32.is)) (ap (quoted_after false false) (sym c.in-32.is))
     (ap (escaped_after false) (sym c.in-32.is))) c.loop-at.invariant
 

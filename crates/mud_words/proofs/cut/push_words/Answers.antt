@@ -1,33 +1,68 @@
-use Rattle.std.proofs.Common.{◌<◌, length, ◌∙◌, arith}
+use Rattle.std.proofs.Common.{◌++◌, ◌∷◌, [], ℕ, List, length, map, ap, ◌∙◌, arith, rules}
 use Rattle.std.specs.Cow.{cow_str_bytes}
-use Rattle.std.proofs.lemmas.Bool.Decides.{nat_tests}
-use Rattle.mud_words.proofs.ReadingLemmas.{front_taken, front_trimmed, word_taken, less_left}
+use Rattle.std.proofs.lemmas.Str.{IsCharBoundary-before_ascii}
+use Rattle.mud_words.proofs.GapLemmas.{back, back_byte, back_boundary, nothing_cut, plain_cut, word_cut, space_cut}
+use Rattle.mud_words.proofs.GapLemmas.{none_pushed, last_pushed, all_joined}
+use Rattle.mud_words.proofs.cut.push_words.Goals.{in-32+in_ok-push_plain-in-32, in-32-2, in_default}
 use Rattle.mud_words.proofs.cut.push_words.Goals as goal
 
-pub loop-text-init : goal.loop-text-init
-loop-text-init c = record {
-  words = front_taken _ c.args.text.now _ c.without_front-text.ensures;
-  trimmed = front_trimmed c.args.text.now _ c.without_front-text.ensures;
-  utf8 = c.without_front-text.utf8;
-}
+pub loop-at-init : goal.loop-at-init
+loop-at-init c = nothing_cut _ _ _ c.utf8.text
 
-pub loop-text-smaller : goal.loop-text-smaller
-loop-text-smaller c =
-    let some : 0 < length c.loop-text.text.now =
-    grind (arith, nat_tests, c.is_empty.ensures, c.loop-text-test.true, c.loop-text-test.ensures) in
-    less_left c.loop-text.text.now c.in_ok-word.rest.now c.without_front-text-in-loop-text.result.now some
-    c.in_ok-word.ensures.rest c.without_front-text-in-loop-text.ensures
+pub loop-at-preserved-then-byte-gt92 : goal.loop-at-preserved-then-byte-gt92
+loop-at-preserved-then-byte-gt92 c =
+    let h =
+    back_byte c.args.text.now c.args.rest.now _ c.loop-at.at (back _ _ c.requires) c.as_bytes-byte-items.ensures.value
+    c.loop-at-test.true in
+    plain_cut _ _ _ _ _ _ _ h.0 (λ e. absurd (omega (arith, h.1, e))) (λ e. absurd (omega (arith, h.1, e)))
+    (λ e. absurd (omega (arith, h.1, e))) c.loop-at.invariant
 
-pub loop-text-preserved : goal.loop-text-preserved
-loop-text-preserved c =
-    let some : 0 < length c.loop-text.text.now =
-    grind (arith, nat_tests, c.is_empty.ensures, c.loop-text-test.true, c.loop-text-test.ensures) in
-    record {
-      words =
-          word_taken cow_str_bytes c.loop-text.words.items c.push.new.self.items c.in_ok-word.word c.loop-text.text.now
-          c.in_ok-word.rest.now c.without_front-text-in-loop-text.result.now c.loop-text.invariant.trimmed some
-          c.in_ok-word.ensures.words c.in_ok-push.ensures.items c.without_front-text-in-loop-text.ensures
-          ∙ c.loop-text.invariant.words;
-      trimmed = front_trimmed c.in_ok-word.rest.now _ c.without_front-text-in-loop-text.ensures;
-      utf8 = c.without_front-text-in-loop-text.utf8;
-    }
+pub range-requires-clause-end_boundary : goal.range-requires-clause-end_boundary
+range-requires-clause-end_boundary c =
+    let h =
+    back_byte c.args.text.now c.args.rest.now _ c.loop-at.at (back _ _ c.requires) c.as_bytes-byte-items.ensures.value
+    c.loop-at-test.true in
+    IsCharBoundary-before_ascii c.args.text.now c.loop-at.at h.0 (omega (arith, h.1))
+
+pub loop-at-preserved : goal.loop-at-preserved
+loop-at-preserved c =
+    let h =
+    back_byte c.args.text.now c.args.rest.now _ c.loop-at.at (back _ _ c.requires) c.as_bytes-byte-items.ensures.value
+    c.loop-at-test.true in
+    elim c.match-byte.branch [
+      | in-32+in_ok-push_plain-in-32 w ↦
+          rw (w.words-is, w.start-is, w.joined-is)
+          (word_cut cow_str_bytes _ c.loop-at.words.items _ c.args.text.now c.loop-at.start c.loop-at.at _ c.utf8.text
+          h.0 (h.1 ∙ w.in-32.is) w.if-start-at.true
+          (w.in_ok-push_plain-in-32.ensures
+          ∙ ap (λ (t : List ℕ). map cow_str_bytes c.loop-at.words.items ++ t ∷ []) w.range.ensures.value)
+          c.loop-at.invariant)
+      | in-32-2 w ↦
+          rw (w.words-is, w.start-is, w.joined-is)
+          (space_cut _ _ _ _ _ _ _ c.utf8.text h.0 (h.1 ∙ w.in-32.is) w.if-start-at.false c.loop-at.invariant)
+      | in_default w ↦
+          rw (w.words-is, w.start-is, w.joined-is)
+          (plain_cut _ _ _ _ _ _ _ h.0 (λ e. absurd (search (rules, h.1, e))) (λ e. absurd (search (rules, h.1, e)))
+          (λ e. absurd (search (rules, h.1, e))) c.loop-at.invariant)
+    ]
+
+pub returns-then-start-rest-clause-words : goal.returns-then-start-rest-clause-words
+returns-then-start-rest-clause-words c =
+    none_pushed _ _ _ _ _ _ _ _ (back c.args.text.now c.args.rest.now c.requires) (search rules) c.loop-at.invariant
+
+pub range-requires-2-clause-end_boundary : goal.range-requires-2-clause-end_boundary
+range-requires-2-clause-end_boundary c = back_boundary _ _ (back _ _ c.requires) c.utf8.text c.utf8.rest
+
+pub returns-clause-words : goal.returns-clause-words
+returns-clause-words c =
+    last_pushed cow_str_bytes _ c.loop-at.words.items _ c.args.text.now c.args.rest.now c.loop-at.start c.loop-at.at _
+    (back _ _ c.requires) (search rules) (search rules)
+    (c.in_ok-push_plain.ensures
+    ∙ ap (λ (t : List ℕ). map cow_str_bytes c.loop-at.words.items ++ t ∷ []) c.range-2.ensures.value)
+    c.loop-at.invariant
+
+pub returns-clause-joined : goal.returns-clause-joined
+returns-clause-joined c = λ joined.
+    all_joined cow_str_bytes _ _ c.args.text.now c.args.rest.now c.loop-at.start c.loop-at.at _ (back _ _ c.requires)
+    (omega (arith, ap length c.as_bytes-byte-items.ensures.value))
+    (omega (arith, ap length c.as_bytes-byte-items.ensures.value)) joined c.loop-at.invariant

@@ -1,17 +1,6 @@
-use Rattle.std.proofs.Common.{◌≡◌, ◌++◌, map, length, IsUtf8}
 use Rattle.std.specs.Cow.{cow_str_bytes}
-use Rattle.mud_words.specs.Words.{plain_words}
-use Rattle.mud_words.proofs.ReadingLemmas.{Trimmed}
+use Rattle.mud_words.proofs.GapLemmas.{Cutting}
 use Rattle.mud_words.proofs.cut.push_words.Given as goal
 
--- the words so far, and the words of the remaining text, which does not begin with a space
-abbrev pub invariant-loop-text : goal.invariant-loop-text
-invariant-loop-text l = record {
-  words : map cow_str_bytes l.words.items ++ plain_words l.text
-      ≡ map cow_str_bytes l.initial.words.items ++ plain_words l.fn.text;
-  trimmed : Trimmed l.text;
-  utf8 : IsUtf8 l.text;
-}
-
-abbrev pub decreases-loop-text : goal.decreases-loop-text
-decreases-loop-text l = length l.text
+abbrev pub invariant-loop-at : goal.invariant-loop-at
+invariant-loop-at l = Cutting cow_str_bytes l.initial.words.items l.words.items l.text l.start l.at l.joined

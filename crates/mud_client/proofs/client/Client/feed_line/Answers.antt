@@ -100,7 +100,7 @@ fed g c =
     c.deref_mut-parts.result.now.waiting.items c.drop_front.new.text.items
     (take count c.deref-2.result.now) c.deref_mut-parts.result.now.session c.feed-fed.new.self inside.desk.state
     c.into_desk.result.state _
-    c.new-seat.result c.feed-fed.new.door inside.has_ended c.if-has_ended.has_ended c.new-seat.ensures
+    c.up_to-seat.result c.feed-fed.new.door inside.has_ended c.if-has_ended.has_ended c.up_to-seat.ensures
     c.into_desk.ensures.state (ap (λ (bs : List ℕ). take count bs) c.deref-2.ensures.value ∙ line.takes)
     (c.drop_front.ensures ∙ line.leaves) (ended g c))
 

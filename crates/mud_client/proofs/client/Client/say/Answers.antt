@@ -1,5 +1,5 @@
 use Rattle.std.proofs.Common.{◌≡◌, [], length, Option, None, Some, is_some, ◌⊎◌, inl, inr}
-use Rattle.std.proofs.Common.{sym, ap, subst, ◌∙◌}
+use Rattle.std.proofs.Common.{refl, sym, ap, subst, ◌∙◌}
 use Rattle.std.proofs.Math.Logic.{∥∥₁_map}
 use Rattle.mud_session.specs.Laws.{NamesSeen}
 use Rattle.mud_client.specs.declared.outgoing.End.{End}
@@ -19,8 +19,8 @@ new-text-requires g c = record {
       c.client.view_is)) c.requires)
       (λ names.
       said_names c.deref_mut-link.result.now.framing (length c.client.inside.desk.state.seen) c.seen.result
-      c.deref_mut-link.result.now.session.out c.take_out-said.result.items c.in-Ok.bytes.items names.out
-      c.take_out-said.ensures.text c.in-Ok.ensures.text c.seen.ensures.seen);
+      c.deref_mut-link.result.now.session.out c.deref_mut-link.result.now.session.out c.in-Ok.bytes.items names.out
+      refl c.in-Ok.ensures.text c.seen.ensures.seen);
 }
 
 pub invariant_of-client : goal.invariant_of-client
@@ -29,7 +29,7 @@ invariant_of-client g c =
     silent_kept
     (state_of (length g.J.HallName.cells) c.deref_mut-link.result.now.framing c.deref_mut-link.result.now.waiting.items
     c.deref_mut-link.result.now.session inside.desk.state
-    inside.has_ended) c.frame.new.self c.take_out-said.new.self c.frame.ensures.same c.take_out-said.ensures.rest
+    inside.has_ended) c.frame.new.self c.frame.new.session c.frame.ensures.same c.frame.ensures.session
     (rw (sym c.deref_mut-link.ensures.value) at c.client.invariant)
 
 pub invariant_of-client-in-Err : goal.invariant_of-client-in-Err
@@ -38,7 +38,7 @@ invariant_of-client-in-Err g c =
     silent_kept
     (state_of (length g.J.HallName.cells) c.deref_mut-link.result.now.framing c.deref_mut-link.result.now.waiting.items
     c.deref_mut-link.result.now.session inside.desk.state
-    inside.has_ended) c.frame.new.self c.take_out-said.new.self c.frame.ensures.same c.take_out-said.ensures.rest
+    inside.has_ended) c.frame.new.self c.frame.new.session c.frame.ensures.same c.frame.ensures.session
     (rw (sym c.deref_mut-link.ensures.value) at c.client.invariant)
 
 pub give-requires : goal.give-requires
@@ -67,13 +67,12 @@ returns-after-client-clause-says g c =
       | else-client w ↦ ap (λ (e : Option End). is_some e) w.end-is ∙ sym w.if-client.false
     ] in
     let gives : out.text ≡ framed c.deref_mut-link.result.now.framing c.deref_mut-link.result.now.session.out =
-    ap (λ h. h.text.items) c.give.ensures.text ∙ ap (λ v. v.items) c.new-text.ensures.text ∙ c.in-Ok.ensures.text
-    ∙ ap (framed c.deref_mut-link.result.now.framing) c.take_out-said.ensures.text in
+    ap (λ h. h.text.items) c.give.ensures.text ∙ ap (λ v. v.items) c.new-text.ensures.text ∙ c.in-Ok.ensures.text in
     let version : out.version ≡ length inside.desk.state.seen =
     ap (λ h. h.version) c.give.ensures.text ∙ c.new-text.ensures.version ∙ c.seen.ensures.seen in
     said_end (Says c.args.has_line c.args.self c.give.result.0 out) (out.text ≡ []) (λ e. ⊥) c.if-client.end
     out.end c.give.ensures.end which
     (subst (λ (x : ClientState). Says c.args.has_line x c.give.result.0 out)
     (rw (sym c.deref_mut-link.ensures.value) at c.client.view_is)
-    (says_so c.args.has_line c.if-client.end old c.frame.new.self c.take_out-said.new.self c.give.result.0 out
-    c.frame.ensures.same c.take_out-said.ensures.rest c.give.ensures.client ended gives version c.give.ensures.line))
+    (says_so c.args.has_line c.if-client.end old c.frame.new.self c.frame.new.session c.give.result.0 out
+    c.frame.ensures.same c.frame.ensures.session c.give.ensures.client ended gives version c.give.ensures.line))

@@ -53,8 +53,8 @@ class Played(NamedTuple):
 
     @property
     def own_cost(self):
-        """Returns microseconds of processor time of the clients an answer. They have one thread, so this bounds the
-        answers a second of any server."""
+        """Returns microseconds of processor time of the clients an answer. They have two threads, so half of it bounds
+        the answers a second of any server."""
         return self.spent / self.answers * 1e6
 
 

@@ -1,12 +1,14 @@
 //! load PORT CLIENTS LINES seamountcup|web|mux: runs this many clients in a closed loop. Each sends its next line after
-//! the last answer, LINES in all. `web` is seamountcup by its web listener. One thread serves all clients by `poll`, so
-//! that it uses little of the measured machine. It prints three lines. The first has the number of answers, the
-//! seconds, the lines read, and the notices of talk among them. The second has the 50th and 99th percentile of the
-//! replies in milliseconds, and the third those of the notices, from the time when the line was sent.
+//! the last answer, LINES in all. `web` is seamountcup by its web listener. Two threads serve the clients by `poll`:
+//! they use little of the measured machine, and one of them would bound the rate. It prints three lines. The first has
+//! the number of answers, the seconds, the lines read, and the notices of talk among them. The second has the 50th and
+//! 99th percentile of the replies in milliseconds, and the third those of the notices, from the time when the line was
+//! sent.
 
 use std::io::{self, BufRead, Read, Write};
 use std::net::TcpStream;
 use std::os::fd::AsRawFd;
+use std::sync::atomic::{AtomicU64, AtomicUsize, Ordering};
 use std::time::{Duration, Instant};
 
 #[repr(C)]
@@ -26,6 +28,7 @@ const TCP_QUICKACK: i32 = 12;
 
 const READABLE: i16 = 1;
 const PATIENCE: i32 = 20_000;
+const MOST_THREADS: usize = 2;
 /// The room for bytes at once; more if it is used up.
 const ROOM: usize = 65_536;
 /// The lines that a client sends over and over; `say` gets a text of its own each time.
@@ -60,12 +63,11 @@ impl Dialect {
         }
     }
 
-    /// Returns a line of the round.
-    fn spelled(self, line: &str, number: usize) -> String {
+    /// Returns a line of the round that says nothing.
+    fn spelled(self, line: &str) -> &str {
         match (line, self) {
-            ("say", _) => format!("say {SAID}{number}"),
-            ("@version", Dialect::Mux) => "version".to_string(),
-            _ => line.to_string(),
+            ("@version", Dialect::Mux) => "version",
+            _ => line,
         }
     }
 
@@ -167,13 +169,57 @@ impl<'a> Iterator for Lines<'a> {
     }
 }
 
-/// The measurements, and when each spoken text was sent.
-#[derive(Default)]
-struct Times {
+/// When each spoken text was sent, by its number, for all threads.
+struct Spoken {
+    start: Instant,
+    /// The nanoseconds after the start; 0 until it is sent.
+    sent_at: Vec<AtomicU64>,
+    count: AtomicUsize,
+}
+
+impl Spoken {
+    /// Room for this many texts.
+    fn new(most: usize) -> Spoken {
+        let sent_at = (0..most).map(|_| AtomicU64::new(0)).collect();
+        Spoken { start: Instant::now(), sent_at, count: AtomicUsize::new(0) }
+    }
+
+    /// Returns the number of the next text.
+    fn number(&self) -> usize {
+        self.count.fetch_add(1, Ordering::Relaxed)
+    }
+
+    /// Keeps when a text is sent, which begins now.
+    fn is_sent(&self, number: usize, sent_at: Instant) {
+        self.sent_at[number].store((sent_at - self.start).as_nanos() as u64, Ordering::Relaxed);
+    }
+
+    /// Returns how long ago a text was sent, if it was.
+    fn since(&self, number: usize, now: Instant) -> Option<Duration> {
+        let nanoseconds = self.sent_at.get(number)?.load(Ordering::Relaxed);
+        (nanoseconds != 0).then(|| now - self.start - Duration::from_nanos(nanoseconds))
+    }
+}
+
+/// The measurements of a thread.
+struct Times<'a> {
     replies: Vec<Duration>,
     notices: Vec<Duration>,
     lines_read: usize,
-    said: Vec<Instant>,
+    spoken: &'a Spoken,
+}
+
+impl<'a> Times<'a> {
+    fn new(spoken: &'a Spoken) -> Times<'a> {
+        Times { replies: Vec::new(), notices: Vec::new(), lines_read: 0, spoken }
+    }
+
+    /// Adds those of another thread.
+    fn add(&mut self, other: Times) {
+        self.replies.extend(other.replies);
+        self.notices.extend(other.notices);
+        self.lines_read += other.lines_read;
+    }
 }
 
 struct Client {
@@ -218,6 +264,13 @@ impl Client {
         self.sent_at = Instant::now();
         self.is_waiting = true;
         self.stream.write_all(&self.dialect.typed(line))
+    }
+
+    /// Says a text with a number of its own.
+    fn say(&mut self, spoken: &Spoken) -> io::Result<()> {
+        let number = spoken.number();
+        spoken.is_sent(number, Instant::now());
+        self.send(&format!("say {SAID}{number}"))
     }
 
     /// Acknowledges input at once: a server may wait for that before it sends more.
@@ -267,14 +320,12 @@ impl Client {
             return Ok(());
         }
         self.left -= 1;
-        let number = times.said.len();
-        let line = self.dialect.spelled(ROUND[self.at % ROUND.len()], number);
+        let line = ROUND[self.at % ROUND.len()];
         self.at += 1;
-        self.send(&line)?;
-        if line.contains(SAID) {
-            times.said.push(self.sent_at);
+        match line {
+            "say" => self.say(times.spoken),
+            line => self.send(self.dialect.spelled(line)),
         }
-        Ok(())
     }
 
     /// Processes input.
@@ -284,9 +335,7 @@ impl Client {
         let mut is_answered = false;
         self.inbox.take_lines(|line| {
             times.lines_read += 1;
-            if let Some(sent_at) = told(line).and_then(|number| times.said.get(number)) {
-                times.notices.push(now - *sent_at);
-            }
+            times.notices.extend(told(line).and_then(|number| times.spoken.since(number, now)));
             is_answered |= dialect.is_answer(line);
         });
         if self.is_waiting && is_answered {
@@ -315,9 +364,11 @@ fn within(times: &mut [Duration], thousandths: usize) -> f64 {
     times.get(times.len() * thousandths / 1000).map_or(0.0, |it| it.as_secs_f64() * 1e3)
 }
 
-fn work(clients: &mut [Client], times: &mut Times) -> io::Result<()> {
+/// Plays with these clients, in one thread.
+fn work<'a>(clients: &mut [Client], spoken: &'a Spoken) -> io::Result<Times<'a>> {
+    let mut times = Times::new(spoken);
     for client in clients.iter_mut() {
-        client.go_on(times)?;
+        client.go_on(&mut times)?;
     }
     let mut files: Vec<PollFd> = clients
         .iter()
@@ -330,11 +381,24 @@ fn work(clients: &mut [Client], times: &mut Times) -> io::Result<()> {
         }
         for (file, client) in files.iter().zip(clients.iter_mut()) {
             if file.found != 0 {
-                client.take(times)?;
+                client.take(&mut times)?;
             }
         }
     }
-    Ok(())
+    Ok(times)
+}
+
+/// Plays with these clients, in up to `MOST_THREADS` threads.
+fn work_all<'a>(clients: &mut [Client], spoken: &'a Spoken) -> io::Result<Times<'a>> {
+    let share = clients.len().div_ceil(MOST_THREADS);
+    let mut all = Times::new(spoken);
+    std::thread::scope(|scope| {
+        let threads: Vec<_> = clients.chunks_mut(share).map(|some| scope.spawn(move || work(some, spoken))).collect();
+        for thread in threads {
+            all.add(thread.join().map_err(|_| io::ErrorKind::Other)??);
+        }
+        Ok(all)
+    })
 }
 
 fn run(port: u16, count: usize, lines: usize, dialect: Dialect) -> io::Result<()> {
@@ -350,10 +414,9 @@ fn run(port: u16, count: usize, lines: usize, dialect: Dialect) -> io::Result<()
     for client in &mut clients {
         client.drain()?;
     }
-    let mut times = Times::default();
-    let start = Instant::now();
-    work(&mut clients, &mut times)?;
-    let took = start.elapsed().as_secs_f64();
+    let spoken = Spoken::new(count * lines);
+    let mut times = work_all(&mut clients, &spoken)?;
+    let took = spoken.start.elapsed().as_secs_f64();
     let answered = times.replies.len();
     println!("{answered} {took:.3} {} {}", times.lines_read, times.notices.len());
     for found in [&mut times.replies, &mut times.notices] {

@@ -16,9 +16,9 @@ MOST_WORDS = 35
 PAGES = ["README.md", "CHANGELOG.md", "docs/*.md", "bench/README.md", "tests/README.md", "examples/*.md"]
 RATTLE, SPECS, PROOFS = ["crates/*/src/**/*.rt"], ["crates/*/specs/**/*.antt"], ["crates/*/proofs/**/*.antt"]
 PYTHON = ["run", "tests/run", "tests/*.py", "tests/harness/**/*.py", "packaging/*.py", "page/*.py", "bench/*.py"]
-PYTHON += [f"bench/{name}" for name in ("builders", "journal", "lines", "load", "memory", "record", "tables", "web")]
-PYTHON += ["bench/hall/run", "bench/workers/run"]
-SHELL = [".ci/run", "bench/run", "packaging/launch", "packaging/*.toml", "packaging/*.service"]
+PYTHON += [f"bench/{name}" for name in ("builders", "heard", "journal", "lines", "load", "memory", "record", "routes")]
+PYTHON += ["bench/tables", "bench/turns", "bench/web", "bench/hall/run", "bench/workers/run"]
+SHELL = [".ci/run", "packaging/launch", "packaging/*.toml", "packaging/*.service"]
 SHOWN = 5
 
 CODE, QUOTED = re.compile(r"``.+?``|`[^`]*`"), re.compile(r'"[^"]*"')

@@ -13,7 +13,7 @@ from harness.programs import TOP, NotBuilt
 CRATE, LIKE = "mud_foreign", "mud_client"
 # Each change of the function, by the name of its test.
 CHANGES = {
-    "a gate opens with the receipt of another journal": ("gate.publish(rt, receipt);", "gate.publish(rt, other);"),
+    "a gate opens with the receipt of another journal": ("gate.publish(receipt);", "gate.publish(other);"),
     "a text goes by the receipt of another journal": ("text.open(receipt)", "text.open(other)"),
 }
 # The compiler's words for an argument of another type.

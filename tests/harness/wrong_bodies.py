@@ -9,15 +9,20 @@ import os
 import re
 import shutil
 import tempfile
+import time
 from concurrent.futures import ThreadPoolExecutor
 from dataclasses import dataclass, field
 
 from harness.parts import Skipped, part
 from harness.programs import TOP, NotBuilt
-from harness.prover import check_function, run
+from harness.prover import check_function, crates, run
 
 FOLDER = f"{TOP}/tests/wrong-bodies"
 IN_GATE, ON_DEMAND = "in the gate", "on demand"
+# The output of a running `rt ci`, if the wrong bodies are tried beside it: how it names a crate that is proved, and its
+# last line. They are tried once at most `FEW` crates are left to prove.
+SAID = os.environ.get("RT_CI_SAID")
+IS_PROVED, HAS_ENDED, FEW = re.compile(r"^rt: (\w+) (?:proved\b|is kept:)", re.M), "rt ci has ended", 8
 
 
 @dataclass
@@ -131,9 +136,25 @@ def tried(edit, texts, kept):
         return check_function(edit.crate(), edit.function, folder, kept)
 
 
+def left_of(names):
+    """Returns those of some crates that a running `rt ci` has yet to prove, if there is one."""
+    if not SAID:
+        return set()
+    with open(SAID, encoding="utf-8", errors="replace") as file:
+        said = file.read()
+    return set() if HAS_ENDED in said else set(names) - set(IS_PROVED.findall(said))
+
+
+def wait_until_few(names, few):
+    """Waits until at most `few` of these crates are left to prove for a running `rt ci`."""
+    while len(left_of(names)) > few:
+        time.sleep(1)
+
+
 def planted(group):
-    """Returns the reports on the edits of a crate. They are tried one after the other: they have most of a check in
-    common."""
+    """Returns the reports on the edits of a crate, once the libraries below it are proved. They are tried one after
+    the other: they have most of a check in common."""
+    wait_until_few(crates().below(group[0].crate()), 0)
     with tempfile.TemporaryDirectory(prefix="kept-checks-") as kept:
         return [(edit, tried(edit, edit.texts()[0], kept)) for edit in group]
 
@@ -147,8 +168,10 @@ def right(edit):
 
 def count_refusals(count, chosen):
     """Counts a test for each edit, and one for the first edit's function as it stands, which the same words must
-    prove. The crates with the most edits begin, so that none of them is tried alone at the end."""
-    groups = sorted((list(group) for _, group in itertools.groupby(chosen, Edit.crate)), key=len, reverse=True)
+    prove. The crates with the most edits begin, so that none of them is tried alone at the end; beside an `rt ci` those
+    with the fewest libraries to wait for."""
+    groups = [list(group) for _, group in itertools.groupby(chosen, Edit.crate)]
+    groups.sort(key=lambda group: (len(left_of(crates().below(group[0].crate()))), -len(group)))
     with ThreadPoolExecutor(run().lanes()) as threads:
         as_it_stands = threads.submit(right, chosen[0])
         for edit, said in itertools.chain.from_iterable(threads.map(planted, groups)):
@@ -159,6 +182,7 @@ def count_refusals(count, chosen):
 
 @part("wrong-bodies", "the prover refuses each wrong body that is tried in the gate", wants_proof=True)
 def wrong_bodies(count):
+    wait_until_few(crates().lows, FEW)
     try:
         count_refusals(count, in_gate())
     except NotBuilt as error:

@@ -2,55 +2,43 @@
 
 ghost use Rattle.std.specs.Prelude.{◌≡◌, ◌≤◌, IfSome, true, false};
 
-use crate::journal::Receipt;
-use std::sync::atomic::{AtomicUsize, Ordering};
-use std::sync::{Condvar, Mutex, Wait};
-
-// The state of the barrier: the requested version, and the result of the journal.
-#[derive(Drop)]
-struct Mark<J> {
-    // The greatest version that was requested to be synced.
-    wanted: usize,
-    // The receipt of the last sync. A gate without a journal keeps the receipt for nothing.
-    synced: Receipt<J>,
-    // True once the journal accepts no more.
-    has_failed: bool,
-    // True once no more will be requested.
-    is_closed: bool,
-    ghost of_journal: { synced.is_free ≡ false },
-}
+use crate::journal::{LastReceipt, Receipt};
+use crossbeam_utils::sync::EventCount;
+use std::sync::Wait;
+use std::sync::atomic::{AtomicBool, AtomicUsize, Ordering};
 
 /// A commit barrier between the thread that writes the journal that `J` names and the threads that wait for it. A
-/// receipt of another journal has another type. No other lock is taken while its lock is held. A gate without a journal
-/// is open: no thread waits at it, and its lock is not taken.
+/// receipt of another journal has another type. A gate without a journal is open: no thread waits at it. It has no
+/// lock: threads that are released together don't wait for one another.
 #[derive(Drop)]
 pub struct Gate<J> {
-    state: Mutex<Mark<J>>,
-    // The number of synced entries. It is stored under the lock.
-    count: AtomicUsize,
+    // The greatest version that was requested to be synced.
+    wanted: AtomicUsize,
+    // The receipt of the last sync, or for no entries without a journal.
+    synced: LastReceipt<J>,
+    // True once the journal accepts no more.
+    has_failed: AtomicBool,
+    // True once no more will be requested.
+    is_closed: AtomicBool,
     is_open: bool,
-    // Signalled when something is to be synced, or when the gate is closed.
-    work: Condvar,
-    // Signalled when more is synced, or when the journal has failed.
-    done: Condvar,
+    // Notified when something is to be synced, or when the gate is closed.
+    work: EventCount,
+    // Notified when more is synced, or when the journal has failed.
+    done: EventCount,
 }
 
 // Returns a gate at which this much is synced.
-fn gate_at<J>(synced: Receipt<J>, is_open: bool) -> Gate<J>
-    requires { synced.is_free ≡ false }
+fn gate_at<J>(synced: &Receipt<J>, is_open: bool) -> Gate<J>
     ensures { result.is_open ≡ is_open }
 {
     Gate {
-        count: AtomicUsize::new(synced.up_to()),
-        state: Mutex::new(Mark {
-            wanted: synced.up_to(),
-            synced,
-            has_failed: false,
-            is_closed: false,
-        }),
+        wanted: AtomicUsize::new(synced.up_to()),
+        synced: LastReceipt::new(synced),
+        has_failed: AtomicBool::new(false),
+        is_closed: AtomicBool::new(false),
         is_open,
-        work: Condvar::new(),
-        done: Condvar::new(),
+        work: EventCount::new(),
+        done: EventCount::new(),
     }
 }
 
@@ -59,14 +47,14 @@ impl<J> Gate<J> {
     pub fn new(receipt: &Receipt<J>) -> Gate<J>
         ensures { result.is_open ≡ false }
     {
-        gate_at(receipt.of_journal(), false)
+        gate_at(&receipt.of_journal(), false)
     }
 
     /// Returns the gate of a server without a journal, at which everything counts as synced.
     pub fn open() -> Gate<J>
         ensures { result.is_open ≡ true }
     {
-        gate_at(Receipt::of_nothing(), true)
+        gate_at(&Receipt::of_nothing(), true)
     }
 
     /// Returns whether there is no journal.
@@ -76,12 +64,12 @@ impl<J> Gate<J> {
         self.is_open
     }
 
-    /// Returns the number of synced entries, or the greatest number if there is no journal. It takes no lock.
+    /// Returns the number of synced entries, or the greatest number if there is no journal.
     pub fn synced_count(&self) -> usize {
         if self.is_open {
             usize::MAX
         } else {
-            self.count.load(Ordering::SeqCst)
+            self.synced.get().up_to()
         }
     }
 
@@ -94,76 +82,81 @@ impl<J> Gate<J> {
         if self.is_open {
             return Some(Receipt::free());
         }
-        let mut state = self.state.lock(rt);
+        let last = self.synced.get();
+        if version <= last.up_to() {
+            return Some(last);
+        }
+        self.want(rt, version);
         for _ in rt.forever() {
-            if version <= state.synced.up_to() {
-                return Some(state.synced.again());
+            let key = self.done.prepare_wait();
+            let receipt = self.synced.get();
+            if version <= receipt.up_to() {
+                return Some(receipt);
             }
-            if state.has_failed {
+            if self.has_failed() {
                 return None;
             }
-            if state.wanted < version {
-                state.wanted = version;
-                self.work.notify_one();
-            }
-            state = self.done.wait(rt, state);
+            key.wait(rt);
         }
         unreachable!()
     }
 
     /// Requests that this many entries be synced, without waiting.
     pub fn want<R: Wait>(&self, rt: &R, version: usize) {
-        if self.is_open {
-            return;
-        }
-        let mut state = self.state.lock(rt);
-        if state.wanted < version {
-            state.wanted = version;
-            self.work.notify_one();
+        let mut wanted = self.wanted.load(Ordering::SeqCst);
+        for _ in rt.forever() {
+            if self.is_open || version <= wanted {
+                return;
+            }
+            match self
+                .wanted
+                .compare_exchange(wanted, version, Ordering::SeqCst, Ordering::SeqCst)
+            {
+                Ok(_) => {
+                    self.work.notify_one();
+                    return;
+                }
+                Err(greater) => wanted = greater,
+            }
         }
     }
 
     /// Waits until something is to be synced, and returns true. Returns false once nothing is, and the gate is closed.
     pub fn next<R: Wait>(&self, rt: &R) -> bool {
-        let mut state = self.state.lock(rt);
         for _ in rt.forever() {
-            if state.synced.up_to() < state.wanted {
+            let key = self.work.prepare_wait();
+            if self.synced.get().up_to() < self.wanted.load(Ordering::SeqCst) {
                 return true;
             }
-            if state.is_closed {
+            if self.is_closed.load(Ordering::SeqCst) {
                 return false;
             }
-            state = self.work.wait(rt, state);
+            key.wait(rt);
         }
         unreachable!()
     }
 
     /// Releases the threads that wait for entries which are synced now. A free receipt carries no information, and
-    /// releases no thread.
-    pub fn publish<R: Wait>(&self, rt: &R, receipt: &Receipt<J>) {
-        let synced = receipt.of_journal();
-        let mut state = self.state.lock(rt);
-        if state.synced.up_to() < synced.up_to() {
-            self.count.store(synced.up_to(), Ordering::SeqCst);
-            state.synced = synced;
-        }
+    /// releases no thread. Only the thread that writes the journal calls it.
+    pub fn publish(&self, receipt: &Receipt<J>) {
+        self.synced.put(receipt);
         self.done.notify_all();
     }
 
     /// Records that the journal has failed. Waiting threads get no receipt.
-    pub fn fail<R: Wait>(&self, rt: &R) {
-        self.state.lock(rt).has_failed = true;
+    pub fn fail(&self) {
+        self.has_failed.store(true, Ordering::SeqCst);
         self.done.notify_all();
     }
 
     /// Returns whether the journal has failed.
-    pub fn has_failed<R: Wait>(&self, rt: &R) -> bool {
-        !self.is_open && self.state.lock(rt).has_failed
+    pub fn has_failed(&self) -> bool {
+        self.has_failed.load(Ordering::SeqCst)
     }
 
     /// Records that no more will be requested.
-    pub fn close<R: Wait>(&self, rt: &R) {
-        self.state.lock(rt).is_closed = true;
+    pub fn close(&self) {
+        self.is_closed.store(true, Ordering::SeqCst);
         self.work.notify_one();
     }
 }

@@ -15,6 +15,7 @@ use mud_chron::{Entry, write_entry};
 use mud_world::limits::MOST_ENTRIES;
 use std::alloc::{AllocError, Global};
 use std::marker::PhantomData;
+use std::sync::atomic::{AtomicUsize, Ordering};
 
 /// The name of a journal that has no name yet.
 pub struct Nameless;
@@ -78,6 +79,42 @@ impl<J> Receipt<J> {
         ensures { result ≡ self.now.up_to }
     {
         self.up_to
+    }
+}
+
+/// The greatest receipt of a journal, which many threads read without a lock. It is never free.
+#[derive(Drop)]
+pub(crate) struct LastReceipt<J> {
+    up_to: AtomicUsize,
+    of: PhantomData<J>,
+}
+
+impl<J> LastReceipt<J> {
+    // Begins with this receipt, or with the one for no entries if it is free.
+    pub(crate) fn new(receipt: &Receipt<J>) -> LastReceipt<J> {
+        LastReceipt {
+            up_to: AtomicUsize::new(receipt.of_journal().up_to),
+            of: PhantomData,
+        }
+    }
+
+    // Takes a greater receipt, and no free one. Only the thread that writes the journal calls it.
+    pub(crate) fn put(&self, receipt: &Receipt<J>) {
+        let up_to = receipt.of_journal().up_to;
+        if self.up_to.load(Ordering::SeqCst) < up_to {
+            self.up_to.store(up_to, Ordering::SeqCst);
+        }
+    }
+
+    // Returns the receipt.
+    pub(crate) fn get(&self) -> Receipt<J>
+        ensures { result.is_free ≡ false }
+    {
+        Receipt {
+            up_to: self.up_to.load(Ordering::SeqCst),
+            is_free: false,
+            of: PhantomData,
+        }
     }
 }
 

@@ -10,8 +10,7 @@
 //!
 //! Threads: a journal belongs to one thread, which blocks on the disk in `commit`, and in `Gate::next` until something
 //! is to be synced or the gate is closed. All threads share the gate. `Gate::wait_for` blocks until the version is
-//! synced or the journal has failed; the other calls of a gate only take its lock for a moment. This crate starts no
-//! thread.
+//! synced or the journal has failed; the other calls of a gate never wait. This crate starts no thread.
 //!
 //! Memory: a journal owns its disk, and a held text its bytes. Reading a disk reads its whole text into memory.
 //!

@@ -1,14 +1,14 @@
 -- The invariant of a frontier is preserved.
-use Rattle.std.proofs.Common.{◌≡◌, ◌≢◌, ℕ, ◌+◌, ◌^◌, ◌<◌, ◌≤◌, ◌⊎◌, inl, inr, Bool, true, false, List, [], length, map}
-use Rattle.std.proofs.Common.{get_or, set, replicate, None, Some, refl, sym, ◌∙◌, ap, subst, arith, get_or-set_same}
-use Rattle.std.proofs.Common.{get_or-set_other, length-set}
+use Rattle.std.proofs.Common.{◌≡◌, ◌≢◌, ℕ, ◌+◌, ◌*◌, ◌^◌, ◌<◌, ◌≤◌, ◌⊎◌, inl, inr, Bool, true, false, List, [], length}
+use Rattle.std.proofs.Common.{map, get_or, set, replicate, None, Some, refl, sym, ◌∙◌, ap, subst, arith}
+use Rattle.std.proofs.Common.{get_or-set_same, get_or-set_other, length-set}
 use Rattle.std.specs.Bool.{OnTrue, OnFalse}
 use Rattle.std.proofs.Math.ListN.{get_or-map}
-use Rattle.std.proofs.lemmas.List.Sums.{get_or-le-sum_by}
+use Rattle.std.proofs.lemmas.List.Sums.{get_or-le-sum_by, sum_by-set, sum_by-le, count_by-le-length}
 use Rattle.std.specs.Prelude.{Contains, sum_by, count_by, All, slice_get, reverse}
 use Rattle.std.proofs.lemmas.Bool.{cases_eq, cases_lt}
 use Rattle.std.proofs.lemmas.List.{get_or_past, get_or-replicate, length-replicate, length-map}
-use Rattle.std.proofs.lemmas.List.Elements.{Contains-get_or, All-get_or}
+use Rattle.std.proofs.lemmas.List.Elements.{Contains-get_or, All-get_or, All-from_get_or}
 use Rattle.std.proofs.lemmas.Option.{slice_get_within, get_or_from_slice_get, slice_get-get_or, slice_get-map}
 use Rattle.std.specs.Option.{option_map}
 use Rattle.mud_roads.specs.declared.label.Label.{Label}
@@ -21,15 +21,17 @@ use Rattle.mud_roads.specs.Passable.{Knowledge, knowledge_of, IsTraveller, roads
 use Rattle.mud_world.specs.Sound.{IsSound}
 use Rattle.mud_search.proofs.Inside.{world-within, place-within}
 use Rattle.mud_search.specs.declared.slot.Slot.{Slot}
+use Rattle.mud_search.specs.declared.task.Task.{Task}
 use Rattle.mud_search.specs.declared.slot.Slot.TheVariants.{Unknown, Waiting, Held, Finished}
 use Rattle.mud_search.specs.Memory.{IsKept}
 use Rattle.mud_search.specs.inner.Boards.{slot_at, label_at, settle, offers, IsBoardOf, board_of, slot_of, begun_at}
 use Rattle.mud_search.specs.inner.Boards.{potential, weight, lists_of, Below}
 use Rattle.mud_search.specs.Slots.{label_of, is_waiting, is_held}
 use Rattle.mud_search.specs.Frontier.{IsFrontier}
-use Rattle.mud_search.specs.Tasks.{IsBegun, IsChanged, IsDone}
+use Rattle.mud_search.specs.Tasks.{IsBegun, IsFirst, IsChanged, IsDone}
 use Rattle.mud_search.specs.Least.{AreLeast, AreBounded, label_in}
 use Rattle.mud_search.specs.inner.Order.{labels_in}
+use Rattle.mud_search.specs.inner.Once.{IsInOrder, is_unfinished}
 use Rattle.mud_search.specs.Tables.{table}
 use Rattle.mud_search.proofs.Trails.{Falls, trail-walk, total-reverse}
 use Rattle.mud_search.proofs.Faithful.{faithful-relabelled, faithful-settled, label-bound, rest-least, IsStill}
@@ -37,6 +39,7 @@ use Rattle.mud_search.proofs.Faithful.{still-from_rest, follows-offers, falls-se
 use Rattle.mud_search.proofs.Faithful.{labelled-within}
 use Rattle.mud_search.proofs.Firsts.{waiting-member}
 use Rattle.mud_search.proofs.Potential.{weight-settled_left, potential-set_less}
+use Rattle.mud_search.proofs.Once.{order-done, unfinished-settled}
 
 -- the boards with another slot for a member's room
 abbrev pub with_slot : List (List Slot) → ℕ → ℕ → Slot → List (List Slot)
@@ -263,6 +266,36 @@ module _ (w : State) (ts : List Knowledge) (boards : List (List Slot)) (f : IsKe
             ];
         reached = λ s c. subst (R s.to (after 1 l s)) (sym here) (down s.to (after 1 l s) (all.1 s c));
       }
+
+  -- finishing the first waiting room keeps the rooms in order, and leaves one room less unfinished
+  pub put-once : (l : Label) → IsInOrder (slot_of boards)
+      → IsFirst (slot_of boards) (record { member = m; room = room; label = l })
+      → IsInOrder (slot_of (set boards m (settle room l steps (board_of boards m))))
+      × (sum_by (count_by is_unfinished) (set boards m (settle room l steps (board_of boards m))) + 1
+      ≡ sum_by (count_by is_unfinished) boards)
+  put-once l order first =
+      let slots = board_of boards m in
+      let t : Task = record { member = m; room = room; label = l } in
+      let waits : slot_at slots room ≡ Waiting l = first.is_waiting in
+      let done = put-done l (ap label_of waits) in
+      let less = unfinished-settled (roads_of w who.player) who.place w.next (world-within w who f.sound) room l steps
+      (are who is-who) slots (f.faithful m who is-who) waits
+      (λ q k e. order.sorted m q room k l e waits) in (
+        order-done (slot_of boards) (slot_of (set boards m (settle room l steps slots))) t steps order first done,
+        omega (arith, sum_by-set (count_by is_unfinished) boards m (settle room l steps slots) [] h, less),
+      )
+
+-- there are no more unfinished rooms than rooms
+pub frontier-unfinished : (w : State) (ts : List Knowledge) (boards : List (List Slot)) → IsKept w ts boards
+    → sum_by (count_by is_unfinished) boards ≤ length ts * w.next
+frontier-unfinished w ts boards f =
+    let P : List Slot → Type 0 = λ b. count_by is_unfinished b ≤ w.next in
+    let Q : ℕ → Type 0 = λ n. sum_by (count_by is_unfinished) boards ≤ n * w.next in
+    let all : All P boards = All-from_get_or P boards [] (λ i h.
+    let t = member-of ts i (omega (arith, f.count)) in
+    let whole : length (board_of boards i) ≡ w.next = (f.faithful i t.0 t.1).whole in
+    omega (arith, count_by-le-length is_unfinished (board_of boards i), whole)) in
+    subst Q f.count (sum_by-le (count_by is_unfinished) w.next boards all)
 
 -- the initial frontier satisfies the invariant
 pub frontier-begun : (w : State) (ts : List Knowledge) → IsSound w → All (IsTraveller w) ts → length ts ≤ MOST_PARTY

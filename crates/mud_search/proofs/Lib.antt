@@ -7,6 +7,7 @@ pub mod Orders
 pub mod Heaps
 pub mod Mending
 pub mod Holes
+pub mod Once
 pub mod Parts
 pub mod Potential
 pub mod Trails

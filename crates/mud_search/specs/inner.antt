@@ -1,3 +1,4 @@
+pub mod Once
 pub mod Order
 pub mod Travellers
 pub mod Queues

@@ -1,6 +1,7 @@
 //! The rooms of all members during a search.
 
-ghost use Rattle.std.specs.Prelude.{◌≡◌, ◌≢◌, ℕ, ◌<◌, ◌≤◌, All, IfOk, IfSome, IfNone, None, Some, length, slice_get};
+ghost use Rattle.std.specs.Prelude.{◌≡◌, ◌≢◌, ℕ, ◌+◌, ◌*◌, ◌<◌, ◌≤◌, All, IfOk, IfSome, IfNone, None, Some, length};
+ghost use Rattle.std.specs.Prelude.{slice_get};
 ghost use Rattle.mud_roads.specs.declared.label.Label.{Label};
 ghost use Rattle.mud_roads.specs.Passable.{Knowledge, IsTraveller, roads_of};
 ghost use Rattle.mud_search.specs.Slots.{is_waiting, is_held, labels_of};
@@ -11,6 +12,7 @@ ghost use Rattle.mud_search.specs.Frontier.{IsFrontier};
 ghost use Rattle.mud_search.specs.Tasks.{IsBegun, IsFirst, IsChanged, IsDone};
 ghost use Rattle.mud_search.specs.Least.{label_in, AreLeast, AreBounded};
 ghost use Rattle.mud_search.specs.inner.Boards.{IsLeft, potential, lesser};
+ghost use Rattle.mud_search.specs.inner.Once.{IsInOrder, is_unfinished};
 ghost use Rattle.mud_world.specs.declared.limits.TheConstants.{MOST_PARTY};
 
 use crate::board::Board;
@@ -19,11 +21,13 @@ use crate::gate::{Gate, OpenGate};
 use crate::job::Job;
 use crate::part::Part;
 use crate::slot::Slot;
+use crate::steps::Steps;
 use crate::task::{Put, Rest, Task};
 use mud_roads::{Label, Step, Traveller};
 use mud_world::World;
 use std::alloc::{AllocError, Global};
 use std::marker::{Model, PhantomData};
+use std::sync::ledger::Ledger;
 
 /// The rooms of all members of a party during a search. A contract sees a slot for each member and room, and Unknown
 /// past the last. Its invariant (`IsFrontier`) holds after every call. Each label is that of a walk, a member's place
@@ -111,7 +115,8 @@ impl<J: Job> Frontier<J> {
         self.settle(task, steps)
     }
 
-    // Finishes the task's room like `put`, and promises more: less work is left if the room waited or was held.
+    // Finishes the task's room like `put`, and promises more: less work is left if the room waited or was held. If the
+    // rooms are in order and the task's is the first, they stay in order, and one more room is finished.
     fn settle(&mut self, task: &Task, steps: &[Step]) -> Put
         requires steps { (t : Knowledge) → slice_get J.travellers task.now.member ≡ Some t
             → steps.now ≡ roads_of J.world t.player task.now.room }
@@ -121,6 +126,9 @@ impl<J: Job> Frontier<J> {
             × (self.new ≡ self.old) }
         ensures less { IsLeft (slot_in self.old) task.now
             → potential (lists_in self.new) < potential (lists_in self.old) }
+        ensures once { IsInOrder (slot_in self.old) → IsFirst (slot_in self.old) task.now
+            → IsInOrder (slot_in self.new)
+            × (how_many is_unfinished self.new + 1 ≡ how_many is_unfinished self.old) }
     {
         if task.member < self.boards.len()
             && self.boards[task.member].settle(task.room, task.label, steps)
@@ -220,6 +228,42 @@ impl<J: Job> Frontier<J> {
             part.pass(gate, 0, &task);
             let steps = travellers[task.member].steps_from(task.room);
             let _ = self.settle(&task, steps);
+        }
+    }
+
+    // Returns the waiting room with the least label, like `first`, and counts it as taken.
+    fn next<L: Ledger>(&self, taken: &mut Steps<L>) -> Option<Task>
+        ensures some { IfSome result (λ t. IsFirst (slot_in self.now) t × (taken.new ≡ taken.old + 1)) }
+        ensures member { IfSome result (λ t. t.member < length J.travellers) }
+        ensures none { IfNone result ((taken.new ≡ taken.old)
+            × ((m r : ℕ) (l : Label) → slot_in self.now m r ≡ Slot.Waiting l → ⊥)) }
+        ensures least { IfNone result (IsInOrder (slot_in self.now)
+            → AreLeast J.world J.travellers (λ m. labels_of (slot_in self.now m))) }
+    {
+        // for the prover: reading the field makes the invariant of every frontier known
+        let _known = &self.boards;
+        let task = self.first()?;
+        taken.tick();
+        Some(task)
+    }
+
+    // Finishes a frontier that has just begun, and counts the rooms that it takes: each at most once for each member.
+    pub(crate) fn finish_counted<L: Ledger>(
+        &mut self,
+        travellers: &[Traveller],
+        taken: &mut Steps<L>,
+    )
+        requires travellers { travellers.now ≡ J.travellers }
+        requires these { All (IsTraveller J.world) J.travellers }
+        requires begun { IsBegun J.travellers (slot_in self.old) }
+        ensures least { AreLeast J.world J.travellers (λ m. labels_of (slot_in self.new m)) }
+        ensures cost { taken.new ≤ taken.old + length J.travellers * J.world.next }
+    {
+        // for the prover: reading the field makes the invariant of every frontier known
+        let _known = &self.boards;
+        while let Some(first) = self.next(taken) {
+            let steps = travellers[first.member].steps_from(first.room);
+            let _ = self.settle(&first, steps);
         }
     }
 

@@ -4,7 +4,9 @@
 //! | Call | Result |
 //! |---|---|
 //! | [`labels_alone`] | the least labels of up to eight travellers, computed on the caller's thread |
-//! | [`labels`] | the same, computed by several workers that pass a [`Gate`] with each room |
+//! | [`labels_counted`] | the same, with a count of the rooms that the search takes, for contracts only |
+//! | [`Steps`] | such a count |
+//! | [`labels`] | the least labels, computed by several workers that pass a [`Gate`] with each room |
 //! | [`last_share`] | the share of members, or of workers, that the last of several parts gets |
 //! | [`Labels::get`] | the least label of a member at a room |
 //! | [`Labels::below`] | all least labels of a member below a number, sorted by number |
@@ -15,7 +17,8 @@
 //! that take and return rooms: a task whose room has got a lesser label since is stale, and has no effect.
 //!
 //! Proved: the labels are the least (`AreLeast` in specs/Least.antt, over the walks of mud_roads) and bounded. The
-//! invariant of a frontier holds after every call, and each call has the stated effect. `labels_alone` terminates.
+//! invariant of a frontier holds after every call, and each call has the stated effect. A search on one thread
+//! terminates, and takes each room at most once for each traveller (`labels_counted`).
 //!
 //! ```text
 //! let traveller = Traveller::of(alloc, &world, 1)?;
@@ -40,10 +43,11 @@ mod queue;
 mod share;
 mod shared;
 mod slot;
+mod steps;
 mod task;
 mod workers;
 
-pub use alone::labels_alone;
+pub use alone::{labels_alone, labels_counted};
 pub use found::Labels;
 pub use frontier::Frontier;
 pub use gate::{Gate, OpenGate};
@@ -51,4 +55,5 @@ pub use job::Job;
 pub use share::last_share;
 pub use shared::labels;
 pub use slot::Slot;
+pub use steps::Steps;
 pub use task::{Put, Rest, Task};

@@ -2,12 +2,12 @@
 
 ghost use Rattle.mud_cli.specs.Service.{AreWithin};
 
-use crate::bans::read_bans;
-use crate::serving::{bind, doors, go_on_from, load_entries, tell_torn};
+use crate::serving::{doors, go_on_from, load_entries, tell_torn};
 use crate::stop::Stop;
 use mud_chron::Entry;
 use mud_cli::{ChosenRates, Listening, version};
-use mud_server::try_entries;
+use mud_host::{HostFault, bind, read_bans};
+use mud_server_volume::try_entries;
 use mud_shelf::{Shelf, find_volume, folder_of, latest_volume};
 use std::fs::File;
 use std::io::Print;
@@ -128,7 +128,7 @@ where
     say_doors(rt, listening)?;
     say_files(rt, listening)?;
     say_limits(rt, listening)?;
-    let _ = read_bans(rt, listening.bans).map_err(Stop::of_bans)?;
+    let _ = read_bans(rt, listening.bans).map_err(HostFault::from)?;
     let entries = entries_of(rt, listening)?;
     let changes = entries.len();
     match try_entries(rt.alloc(), listening.limits.capacity, entries) {

@@ -3,34 +3,24 @@
 //! `mud_serve script` answers the lines of standard input, in a new world or after a history. `mud_serve listen` serves
 //! players who connect by Telnet or from a browser. docs/SERVER.md has the command lines and the exit statuses.
 //!
-//! Threads: the main thread runs the server of `mud_server`. The host's threads live as long as the program (`staff`).
-//! One writes the log, so that no thread of the server blocks on it. The others run consoles and answer requests for
-//! the status. A bounded queue under a lock has the log's lines; `mud_control` has the shared state.
+//! Threads: the main thread runs the server of `mud_server`, beside the host's threads of `mud_host`.
 #![tactic(auto)]
 
-mod bans;
 mod checking;
-mod console;
-mod files;
-mod host;
-mod logbook;
-mod metrics;
 mod scripting;
 mod serving;
 mod settings;
-mod staff;
 mod stop;
 
 use crate::checking::check;
-use crate::console::watch;
 use crate::scripting::answer;
 use crate::serving::listen;
 use crate::settings::{Unsettled, settled};
-use crate::staff::Staff;
 use crate::stop::Stop;
 use log::{Level, Log, Logged, info};
 use mud_cli::{CommandFault, Listening, Service, service_of, show, version};
-use mud_server::{Hosting, StopSign};
+use mud_host::{Staff, watch};
+use mud_server_volume::{Hosting, StopSign};
 use std::alloc::Global;
 use std::io::{Eprint, Print};
 use std::process::ExitCode;
@@ -59,7 +49,7 @@ fn main(rt: HostRuntime) -> ExitCode {
     };
     let mut staff = match Staff::new(rt, listening) {
         Ok(staff) => staff,
-        Err(stop) => return tell_stop(&rt, stop),
+        Err(fault) => return tell_stop(&rt, Stop::from(fault)),
     };
     let status_port = staff.status_port();
     let (Ok(host), Ok(control)) = (staff.host(), Arc::try_clone(&staff.control)) else {

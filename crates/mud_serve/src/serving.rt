@@ -7,20 +7,22 @@ ghost use Rattle.mud_chron.specs.Text.{journal_text};
 ghost use Rattle.mud_cli.specs.Service.{AreWithin};
 ghost use Rattle.mud_search.specs.declared.limits.TheConstants.{MOST_WORKERS};
 
-use crate::stop::{NoPort, Stop};
+use crate::stop::Stop;
 use log::{Log, info};
 use mud_chron::Entry;
 use mud_chron::limits::MOST_DESKS;
 use mud_cli::{Listening, WebListening};
 use mud_history_file::load;
+use mud_host::bind;
 use mud_io::Sink;
 use mud_page::PAGE;
-use mud_server::{Doors, FirstVolume, Hosting, Site, Volumes, WebDoor, listen_on, listen_volumes};
+use mud_server::{FirstVolume, Volumes, listen_volumes};
+use mud_server_volume::{Doors, Hosting, Site, WebDoor, listen_on};
 use mud_shelf::{FoundVolume, Shelf, find_volume, folder_of};
 use std::fs::File;
 use std::io;
 use std::io::Eprint;
-use std::net::{IpAddr, Net, TcpListener, TcpStream};
+use std::net::{Net, TcpListener, TcpStream};
 use std::rt::{Files, Runtime};
 use std::sync::Wait;
 use std::thread::Threads;
@@ -66,21 +68,6 @@ pub(crate) fn tell_torn<R: Eprint>(rt: &R, torn: usize) {
         1 => eprintln!(rt; "mud_serve: 1 torn byte at the end of the journal is cut off"),
         _ => eprintln!(rt; "mud_serve: {torn} torn bytes at the end of the journal are cut off"),
     };
-}
-
-/// Binds a listener at this address and port.
-pub(crate) fn bind<R: Net<Listener = TcpListener, Stream = TcpStream>>(
-    rt: &R,
-    address: &str,
-    port: u16,
-) -> Result<TcpListener, Stop> {
-    let Ok(address) = address.parse::<IpAddr>() else {
-        return Err(Stop::Port(port, NoPort::NotIp));
-    };
-    match TcpListener::bind(rt, (address, port)) {
-        Ok(listener) => Ok(listener),
-        Err(error) => Err(Stop::Port(port, NoPort::of(error.kind()))),
-    }
 }
 
 // Returns the web listener that was asked for.
@@ -136,7 +123,7 @@ pub(crate) fn listen<
 >(rt: &R, listening: Listening<'_>, hosting: Hosting<'_>) -> Result<(), Stop>
     requires { AreWithin listening.limits }
 {
-    let limits = mud_server::Limits {
+    let limits = mud_server_volume::Limits {
         // Each session has a desk of its own.
         sessions: MOST_DESKS,
         per_address: listening.per_address,
@@ -166,7 +153,7 @@ fn keep_nothing<
 >(
     rt: &R,
     listening: Listening<'_>,
-    limits: mud_server::Limits,
+    limits: mud_server_volume::Limits,
     hosting: Hosting<'_>,
 ) -> Result<(), Stop>
     requires sessions { limits.sessions ≤ MOST_DESKS }
@@ -198,7 +185,7 @@ fn keep_journal<
 >(
     rt: &R,
     listening: Listening<'_>,
-    limits: mud_server::Limits,
+    limits: mud_server_volume::Limits,
     hosting: Hosting<'_>,
     name: &str,
 ) -> Result<(), Stop>
@@ -234,7 +221,7 @@ fn keep_volumes<
 >(
     rt: &R,
     listening: Listening<'_>,
-    limits: mud_server::Limits,
+    limits: mud_server_volume::Limits,
     hosting: Hosting<'_>,
     shelf: S,
     name: &str,

@@ -1,71 +1,14 @@
 //! The reasons why the program stopped.
 
-use crate::bans::NoBans;
 use mud_hall::ResumeFault;
 use mud_history_file::Unloaded;
+use mud_host::HostFault;
 use mud_journal::OpenFault;
-use mud_server::ServerFault;
+use mud_server_volume::ServerFault;
 use mud_session::{ContinueFault, ScriptFault};
 use std::alloc::AllocError;
 use std::io::ErrorKind;
 use thiserror::Error;
-
-/// The reason why a port is not available.
-#[derive(Clone, Copy, Debug, Error)]
-pub(crate) enum NoPort {
-    /// Another program uses it.
-    #[error("in use")]
-    InUse,
-    /// This user is not allowed to use it.
-    #[error("permission denied")]
-    Denied,
-    /// This machine does not have the address.
-    #[error("no such address")]
-    NoSuchAddress,
-    /// The address is neither IPv4 nor IPv6. Names are not looked up.
-    #[error("not an IP address")]
-    NotIp,
-    /// Any other reason of the system.
-    #[error("{0}")]
-    Other(ErrorKind),
-}
-
-impl NoPort {
-    /// Returns the reason why the system did not give a port.
-    pub(crate) fn of(kind: ErrorKind) -> NoPort {
-        match kind {
-            ErrorKind::AddrInUse => NoPort::InUse,
-            ErrorKind::PermissionDenied => NoPort::Denied,
-            ErrorKind::AddrNotAvailable => NoPort::NoSuchAddress,
-            kind => NoPort::Other(kind),
-        }
-    }
-}
-
-/// The reason why there is no socket for consoles.
-#[derive(Clone, Copy, Debug, Error)]
-pub(crate) enum NoControl {
-    /// Another server uses it.
-    #[error("in use")]
-    InUse,
-    /// The path has a file that is not a socket.
-    #[error("not a socket")]
-    NotSocket,
-    /// Any other reason of the system.
-    #[error("{0}")]
-    Other(ErrorKind),
-}
-
-impl NoControl {
-    /// Returns the reason why the system did not give a socket.
-    pub(crate) fn of(kind: ErrorKind) -> NoControl {
-        match kind {
-            ErrorKind::AddrInUse => NoControl::InUse,
-            ErrorKind::AlreadyExists => NoControl::NotSocket,
-            kind => NoControl::Other(kind),
-        }
-    }
-}
 
 /// The reason why the program stopped.
 #[derive(Clone, Copy, Debug, Error)]
@@ -82,9 +25,9 @@ pub(crate) enum Stop {
     /// Standard input needed too many reads.
     #[error("too many reads")]
     TooManyReads,
-    /// A port is not available, for this reason.
-    #[error("cannot listen on port {0}: {1}")]
-    Port(u16, NoPort),
+    /// The host lacks something, for this reason.
+    #[error("{0}")]
+    Host(HostFault),
     /// No further connection can be accepted.
     #[error("cannot listen")]
     Listen,
@@ -103,15 +46,6 @@ pub(crate) enum Stop {
     /// The settings file can't be read.
     #[error("cannot read the settings: {0}")]
     Settings(ErrorKind),
-    /// The file of the bans can't be read.
-    #[error("cannot read the bans: {0}")]
-    Bans(NoBans),
-    /// The log file can't be opened.
-    #[error("cannot open the log: {0}")]
-    Log(ErrorKind),
-    /// The socket for consoles can't be made.
-    #[error("cannot open the control socket: {0}")]
-    Control(NoControl),
     /// A history was to be loaded, and the journal already has one.
     #[error("journal is not empty")]
     NotEmpty,
@@ -132,6 +66,15 @@ pub(crate) enum Stop {
 impl From<AllocError> for Stop {
     fn from(_: AllocError) -> Stop {
         Stop::OutOfMemory
+    }
+}
+
+impl From<HostFault> for Stop {
+    fn from(fault: HostFault) -> Stop {
+        match fault {
+            HostFault::OutOfMemory => Stop::OutOfMemory,
+            fault => Stop::Host(fault),
+        }
     }
 }
 
@@ -182,14 +125,6 @@ impl Stop {
         match fault {
             OpenFault::OutOfMemory => Stop::OutOfMemory,
             fault => Stop::Open(fault),
-        }
-    }
-
-    /// Returns the reason why there are no bans.
-    pub(crate) fn of_bans(fault: NoBans) -> Stop {
-        match fault {
-            NoBans::OutOfMemory => Stop::OutOfMemory,
-            fault => Stop::Bans(fault),
         }
     }
 

@@ -1,6 +1,3 @@
-mod Crosses
-mod Prefixes
-mod Deciding
 mod Same
 mod Chained
 mod Settled

@@ -1,4 +1,3 @@
 pub mod MayBegin
-pub mod Marks
 pub mod Volumes
 pub mod inner

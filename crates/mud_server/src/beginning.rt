@@ -5,15 +5,16 @@ ghost use Rattle.std.specs.Option.{option_map};
 ghost use Rattle.mud_journal.specs.Disk.{Holds};
 ghost use Rattle.mud_shelf.specs.Volume.{durable};
 ghost use Rattle.mud_journal.specs.declared.fault.OpenFault.{OpenFault};
-ghost use Rattle.mud_server.specs.Marks.{most_begun};
+ghost use Rattle.mud_server_volume.specs.Marks.{most_begun};
 ghost use Rattle.mud_server.specs.MayBegin.{MayBegin};
 
-use crate::marks::most_begun;
-use crate::proposal::{Proposal, continued};
+use crate::continued::continued;
 use log::{Log, warn};
 use mud_chron::Entry;
 use mud_compact::shorten;
 use mud_journal::{Journal, Nameless};
+use mud_server_volume::Proposal;
+use mud_server_volume::marks::most_begun;
 use mud_shelf::{Shelf, TurnFault, Volume, next_volume, turn};
 use std::alloc::Global;
 

@@ -1,49 +1,17 @@
-//! A server: many sessions at a time, over connections, in one hall after another.
+//! A server with volumes: many sessions at a time, in one hall after another.
 //!
-//! [`listen_on`] serves Telnet connections and browsers, each with a session of its own at a desk of one hall. At the
-//! end it closes the hall and writes its history. [`listen_volumes`] keeps the history in volumes: before one is full,
-//! all sessions rest, and sit down in the hall of the next one. docs/SERVER.md has the threads, their locks, which
-//! thread wakes which, how all of them end, and the steps of a turn.
+//! [`listen_volumes`] serves connections like `listen_on` of `mud_server_volume`, and keeps the history in volumes:
+//! before one is full, all sessions rest, and sit down in the hall of the next one. docs/SERVER.md has the steps of a
+//! turn. Between two volumes there is only the caller's thread.
 //!
-//! Threads: the caller's thread writes the journal, and owns it. One more accepts connections, and owns the listeners;
-//! it starts those of `mud_server_threads`, and the search for a shorter history. All of them end before the volume
-//! does, and none outlives the shared state, which the caller's thread owns. Between two volumes there is only the
-//! caller's thread.
-//!
-//! ```
-//! let doors = Doors { telnet: TcpListener::bind(&rt, ("127.0.0.1", 4000))?, web: None };
-//! let limits = Limits {
-//!     sessions: 64, per_address: 0, total: 2, counts_players: false, workers: 0, capacity: 1000, idle: 0, unnamed: 0,
-//! };
-//! let hosting = Hosting::alone(rt.alloc(), 64)?;
-//! let mut sink = Sink::new(io::writer(&rt));
-//! listen_on(&rt, doors, limits, Vec::new(rt.alloc()), hosting, &mut sink)?;
-//! ```
-//!
-//! Proved: the output. With Ok it is the lines that name the ports, and the text of a history. That history can be
-//! loaded again, begins with the loaded entries, and has no more desks after them than simultaneous sessions. After a
-//! fault the output is a prefix of such a text. Volumes are a chain: each later one begins in the world in which the
-//! one before it ended, and the file of each has its whole history. No contract states that the history is that of the
-//! sessions, that any session is served or outlives a turn, that a change wakes a thread, or that a desk is returned;
-//! tests show it.
+//! Proved: volumes are a chain. Each later one begins in the world in which the one before it ended, and the file of
+//! each has its whole history. With Ok the output is the lines that name the ports, and the text of the last volume;
+//! after a fault it is a prefix of such a text. No contract states that a session outlives a turn; tests show it.
 #![tactic(auto)]
 
 mod beginning;
-mod census;
-mod journaled;
-pub mod laws;
-mod listen;
-pub mod marks;
-mod proposal;
-mod turning;
-mod volume;
+mod continued;
 mod volumes;
 
 pub use beginning::Volumes;
-pub use journaled::listen_journaled;
-pub use listen::{listen_on, try_entries};
-pub use mud_control::{Control, Hosting, Rates, StopSign};
-pub use mud_listeners::{Doors, Site, WebDoor};
-pub use mud_server_end::ServerFault;
-pub use mud_server_state::Limits;
 pub use volumes::{FirstVolume, LastJournal, listen_volumes};

@@ -21,22 +21,21 @@ ghost use Rattle.mud_server.specs.inner.Between.{IsReady, MayTurn, MayStop, MayC
 ghost use Rattle.mud_server.specs.inner.Between.{IsLateFault};
 
 use crate::beginning::{Next, NoNext, Volumes, beginning_of, make_next};
-use crate::census::count_objects;
-use crate::listen::{Served, is_well_ended, ports_of, resume_hall};
-use crate::marks::retry_step;
-use crate::proposal::{Proposal, copies};
-use crate::turning::{Turning, tell_large};
-use crate::volume::{Beginning, Company, Ended, Terms, part_all, serve_volume};
 use log::{Log, warn};
 use mud_chron::Entry;
 use mud_control::{Hosting, Tally};
 use mud_hall::{LoadFault, NewHall};
 use mud_io::Sink;
 use mud_journal::{Disk, Found, Journal, JournalFault, Nameless};
-use mud_listeners::{Arrivals, Doors};
+use mud_listeners::Doors;
 use mud_server_end::{ServerFault, write_entries, write_ports};
-use mud_server_state::{Limits, Lobby};
+use mud_server_state::Limits;
 use mud_server_threads::Came;
+use mud_server_volume::marks::retry_step;
+use mud_server_volume::{
+    Beginning, Company, Ended, Proposal, Served, Terms, Turning, copies, count_objects,
+    is_well_ended, new_company, part_all, ports_of, resume_hall, serve_volume, tell_large,
+};
 use mud_shelf::{Shelf, Volume};
 use std::alloc::Global;
 use std::io::Write;
@@ -485,9 +484,9 @@ pub enum LastJournal<F, L> {
     Later(L),
 }
 
-/// Serves like [`crate::listen_on`], and keeps the history in volumes on a disk while it runs. The first volume is
-/// rewritten with all loaded entries before the ports are named. By its type, a text that names a version waits for its
-/// sync.
+/// Serves like `listen_on` of `mud_server_volume`, and keeps the history in volumes on a disk while it runs. The first
+/// volume is rewritten with all loaded entries before the ports are named. By its type, a text that names a version
+/// waits for its sync.
 ///
 /// When a volume is nearly full, or the host requests it, the server turns to the next one. That begins with a shorter
 /// history of the same world. All sessions rest, sit down in the next hall, and go on there. The result is the journal
@@ -538,20 +537,4 @@ pub fn listen_volumes<S: Shelf, R: Threads + Wait + Log + Clock + Sync + AllocGl
     };
     let going = Going { company, beginning };
     serve_volumes(rt, alloc, volumes, terms, going, out)
-}
-
-/// Returns the values that come to the first volume: the listeners, and an empty lobby.
-pub(crate) fn new_company(alloc: Global, doors: Doors) -> Result<Company, ServerFault>
-    ensures fault { IfErr result IsInnerFault }
-{
-    let (listeners, site) = doors.into_parts();
-    let Some(arrivals) = Arrivals::new(listeners) else {
-        return Err(ServerFault::Accept);
-    };
-    Ok(Company {
-        arrivals: Some(arrivals),
-        lobby: Lobby::new(alloc, site)?,
-        guests: Vec::new(alloc),
-        players: 0,
-    })
 }

@@ -15,6 +15,16 @@ use std::alloc::{AllocError, Global};
 use std::net::IpAddr;
 use std::sync::atomic::{AtomicBool, AtomicU32, AtomicU64, Ordering};
 use std::sync::{Arc, Mutex, Wait};
+use std::time::Duration;
+
+// The number of sessions from which a notice thread takes the longest rest after each look.
+const MOST_BUSY: u32 = 32;
+
+// The number of microseconds that each session adds to the rest.
+const SHARE_MICROSECONDS: u64 = 16;
+
+// The number of rests for which a player counts as typing.
+const TYPING_RESTS: u32 = 2;
 
 /// Places for sessions. Each has a lock of its own, under which no other lock is taken.
 #[derive(Drop)]
@@ -68,6 +78,18 @@ impl<H, P, G> ServerState<H, P, G> {
     /// Returns the number of places taken.
     pub fn session_count(&self) -> u32 {
         self.taken.load(Ordering::SeqCst)
+    }
+
+    /// Returns how long a notice thread rests after each look. It is proportional to the number of sessions, so up to
+    /// `MOST_BUSY` sessions all notice threads together look at most some 62,000 times a second.
+    pub fn notice_rest(&self) -> Duration {
+        let busy = u64::from(self.session_count().min(MOST_BUSY));
+        Duration::from_micros(busy * SHARE_MICROSECONDS)
+    }
+
+    /// Returns how long a player counts as typing after an answered line. Meanwhile the replies carry the notices.
+    pub fn typing_time(&self) -> Duration {
+        self.notice_rest().saturating_mul(TYPING_RESTS)
     }
 
     /// Counts a session that became a player's.
@@ -133,8 +155,8 @@ impl<H, P, G> ServerState<H, P, G> {
 
 impl<H, P, J> ServerState<H, P, Gate<J>> {
     /// Returns the reason why all sessions should end, if they should.
-    pub fn ending<R: Wait>(&self, rt: &R) -> Option<Ending> {
-        if self.gate.has_failed(rt) {
+    pub fn ending(&self) -> Option<Ending> {
+        if self.gate.has_failed() {
             Some(Ending::JournalFault)
         } else if self.is_stopping.load(Ordering::SeqCst) {
             Some(Ending::Stop)
@@ -284,14 +306,23 @@ impl<J: HallName> ServerState<Hall<J>, Places<J>, Gate<J>> {
         true
     }
 
-    /// Announces that the hall has at least this many entries, the last one by the session at this place. With a
-    /// journal the writing thread wakes the others once those entries are synced; without one they are woken here.
-    pub fn announce_change<R: Wait>(&self, rt: &R, at: usize, version: usize) {
+    /// Announces at the time `now` that the hall has at least this many entries, the last one by the session at this
+    /// place. With a journal the writing thread wakes the others once those entries are synced; without one they are
+    /// woken here.
+    pub fn announce_change<R: Wait>(&self, rt: &R, at: usize, version: usize, now: Duration) {
         if self.gate.is_open() {
-            self.control.roster.wake_others(rt, at);
+            self.wake_hearers(rt, Some(at), now);
         } else {
             self.gate.want(rt, version);
         }
+    }
+
+    /// Wakes the notice threads of all sessions but the one at the place `speaker`. It wakes no thread that leaves the
+    /// notices to the replies of a player who is typing.
+    pub fn wake_hearers<R: Wait>(&self, rt: &R, speaker: Option<usize>, now: Duration) {
+        self.control
+            .roster
+            .wake_hearers(rt, speaker, now, self.typing_time());
     }
 
     /// Stores the desk of a session that has ended, for another session.

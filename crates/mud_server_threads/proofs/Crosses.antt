@@ -27,7 +27,7 @@ use Rattle.mud_server_threads.specs.contracts.server.Server as Server
 -- a server's state, by its parts
 pub state_sync : (J : RattleType) (h : HallName.Ghosts J.Denot) → IsSend J → IsSync J
     → IsSync (ServerState.the_row (Hall.the_row J h) (Places.the_row J h) (Gate.the_row J))
-state_sync J h s y = state.the_sync _ _ _ (hall_sync J h s y) (places_sync J h s) (gate_sync J s)
+state_sync J h s y = state.the_sync _ _ _ (hall_sync J h s y) (places_sync J h s) (gate_sync J y)
 
 pub connection_send : (J : RattleType) (h : HallName.Ghosts J.Denot) → IsSend J → IsSend (Connection.the_row J h)
 connection_send J h s = search (sendable, crosses, client_send) depth 40 fits 20000

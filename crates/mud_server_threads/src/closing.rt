@@ -43,7 +43,7 @@ pub fn look_at_rest<J: HallName, R: Wait + Clock>(
         state.stop_sessions();
         state.control.roster.wake_all(rt);
     }
-    if let Some(ending) = state.ending(rt) {
+    if let Some(ending) = state.ending() {
         return Remaining::Ends(ending);
     }
     if is_empty(rt, state) {

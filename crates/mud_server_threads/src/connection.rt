@@ -21,8 +21,6 @@ pub type StateOf<J> = ServerState<Hall<J>, Places<J>, Gate<J>>;
 pub(crate) struct Connection<J: HallName> {
     socket: Arc<Socket>,
     client: Mutex<Option<Client<J>>>,
-    // The time of the last answered line, in microseconds; 0 if there was none since the notice thread asked last.
-    answered: AtomicU64,
     // True once the reader thread ends the session and owns the socket.
     hangs_up: AtomicBool,
     // The number of the host's announcements that came before the session, or were sent to it.
@@ -55,7 +53,6 @@ impl<J: HallName> Connection<J> {
         Connection {
             socket,
             client: Mutex::new(None),
-            answered: AtomicU64::new(0),
             hangs_up: AtomicBool::new(false),
             told: AtomicU64::new(told),
         }
@@ -71,20 +68,6 @@ impl<J: HallName> Connection<J> {
         &self.client
     }
 
-    /// Records that a line was answered now, with the notices before it.
-    pub(crate) fn note_answer(&self, now: Duration) {
-        let micros = u64::try_from(now.as_micros()).unwrap_or(u64::MAX);
-        self.answered.store(micros.max(1), Ordering::Relaxed);
-    }
-
-    /// Returns the time of the last answered line, if there was one since the last call.
-    pub(crate) fn last_answer(&self) -> Option<Duration> {
-        match self.answered.swap(0, Ordering::Relaxed) {
-            0 => None,
-            micros => Some(Duration::from_micros(micros)),
-        }
-    }
-
     /// Records that the reader thread ends the session.
     pub(crate) fn hang_up(&self) {
         self.hangs_up.store(true, Ordering::SeqCst);
@@ -97,8 +80,8 @@ impl<J: HallName> Connection<J> {
 
     /// Returns the reason why the session should end from outside, if it should: all sessions end, or the host ends
     /// this one.
-    pub(crate) fn ending<R: Wait>(&self, rt: &R, state: &StateOf<J>) -> Option<Ending> {
-        match state.ending(rt) {
+    pub(crate) fn ending(&self, state: &StateOf<J>) -> Option<Ending> {
+        match state.ending() {
             Some(ending) => Some(ending),
             None => self.socket.dismissal(),
         }
@@ -107,6 +90,11 @@ impl<J: HallName> Connection<J> {
     /// Sends a browser the answer to its head. Returns whether it took the answer.
     pub(crate) fn let_in<R: Wait + Clock>(&self, rt: &R, answer: &[u8]) -> bool {
         self.socket.send(rt, answer).is_ok()
+    }
+
+    /// Returns whether the notice thread has to stop: the session ends or should end, or the server turns.
+    pub(crate) fn is_ending(&self, state: &StateOf<J>) -> bool {
+        self.ending(state).is_some() || state.is_turning() || self.is_hanging_up()
     }
 
     /// Begins the session at a place. Returns the number of its desk, or `None` if an allocation fails or no desk is

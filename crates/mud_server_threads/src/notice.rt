@@ -7,45 +7,44 @@ use mud_socket::{Ending, Parting, now, rest};
 use std::sync::Wait;
 use std::time::{Clock, Duration};
 
-// The number of sessions from which it takes the longest rest after each look.
-const MOST_BUSY: u32 = 32;
+// The longest wait of a notice thread while its player is typing.
+const LONGEST_MILLISECONDS: u64 = 8;
 
-// The number of microseconds that each session adds to the rest.
-const SHARE_MICROSECONDS: u64 = 32;
-
-/// The parker on which a notice thread sleeps until its waker wakes it.
+/// The parker on which a notice thread sleeps until its waker wakes it, and the place and the visit of its session.
 ///
 /// A proof of its own shows the prover that this struct may cross threads. For the bare `Parker`, whose type names an
 /// allocator, the prover's search does not find that.
 #[derive(Drop)]
 pub(crate) struct Sleeper {
     pub(crate) parker: Parker,
+    pub(crate) at: usize,
+    pub(crate) visit: u64,
 }
 
-// Returns the rest after a look. It is proportional to the number of sessions, so up to `MOST_BUSY` sessions all notice
-// threads together look at most some 31,000 times a second.
-fn pause<J: HallName>(state: &StateOf<J>) -> Duration {
-    let busy = u64::from(state.session_count().min(MOST_BUSY));
-    Duration::from_micros(busy * SHARE_MICROSECONDS)
-}
-
-// Waits while the answers to the player's own lines bring the changes of others, which saves texts: until no line was
-// answered for the length of a rest, or the session should end.
-fn leave_to_reader<J: HallName, R: Wait + Clock>(
+// Waits while the player is typing, or until the session should end. The replies carry the changes of others meanwhile,
+// which saves texts. The first wait is the remainder of the typing time. Each further one is twice as long, because the
+// next change wakes this thread once the player is not typing any more.
+fn leave_to_replies<J: HallName, R: Wait + Clock>(
     rt: &R,
     state: &StateOf<J>,
     connection: &Connection<J>,
+    sleeper: &Sleeper,
 ) {
+    let (roster, at, visit) = (&state.control.roster, sleeper.at, sleeper.visit);
+    let longest = Duration::from_millis(LONGEST_MILLISECONDS);
+    let mut wait = Duration::ZERO;
     for _ in rt.forever() {
-        let Some(answered) = connection.last_answer() else {
-            return;
-        };
-        if connection.ending(rt, state).is_some() || state.is_turning() {
-            return;
+        let left = state
+            .typing_time()
+            .saturating_sub(roster.silence(at, now(rt)));
+        if left.is_zero() || connection.is_ending(state) {
+            break;
         }
-        let since = now(rt).saturating_sub(answered);
-        rest(rt, pause(state).saturating_sub(since));
+        roster.leave_to_replies(at, visit, true);
+        wait = left.max(wait.saturating_mul(2)).min(longest);
+        sleeper.parker.park_timeout(rt, wait);
     }
+    roster.leave_to_replies(at, visit, false);
 }
 
 // Gives the other side of a web socket four seconds to close it, after the host ended the session.
@@ -72,14 +71,14 @@ pub(crate) fn tell_all<J: HallName, R: Wait + Clock>(
     sleeper: &Sleeper,
 ) {
     for _ in rt.forever() {
-        if connection.ending(rt, state).is_none() && !state.is_turning() {
+        if connection.ending(state).is_none() && !state.is_turning() {
             sleeper.parker.park(rt);
         }
-        leave_to_reader(rt, state, connection);
+        leave_to_replies(rt, state, connection, sleeper);
         if state.is_turning() {
             return;
         }
-        if let Some(ending) = connection.ending(rt, state) {
+        if let Some(ending) = connection.ending(state) {
             connection.tell_ending(rt, ending);
             if let Ending::ByHost = ending {
                 see_off(rt, connection);
@@ -93,7 +92,7 @@ pub(crate) fn tell_all<J: HallName, R: Wait + Clock>(
             connection.part(rt, Parting::Left);
             break;
         }
-        rest(rt, pause(state));
+        rest(rt, state.notice_rest());
     }
     if !connection.is_hanging_up() {
         connection.socket().shut();

@@ -133,7 +133,7 @@ impl<'a, J: HallName, R: Threads + Wait + Log + Clock + Sync> Reading<'a, J, R> 
     fn hear(&mut self) {
         let now = now(self.rt);
         self.habits.patience.hear(now);
-        self.connection.socket().hear(now);
+        self.state.control.roster.hear(self.at, now);
     }
 
     // Counts a wait. The log names it, unless the session waited less than a minute ago.
@@ -163,7 +163,7 @@ impl<'a, J: HallName, R: Threads + Wait + Log + Clock + Sync> Reading<'a, J, R> 
             else {
                 return true;
             };
-            if self.connection.ending(rt, state).is_some() {
+            if self.connection.ending(state).is_some() {
                 return true;
             }
             if state.is_turning() {
@@ -182,7 +182,7 @@ impl<'a, J: HallName, R: Threads + Wait + Log + Clock + Sync> Reading<'a, J, R> 
     fn wait_for_turn(&self) -> bool {
         let (rt, state) = (self.rt, self.state);
         for _ in rt.forever() {
-            if !state.is_held() || self.connection.ending(rt, state).is_some() {
+            if !state.is_held() || self.connection.ending(state).is_some() {
                 return true;
             }
             if state.is_turning() {
@@ -204,7 +204,7 @@ impl<'a, J: HallName, R: Threads + Wait + Log + Clock + Sync> Reading<'a, J, R> 
 
     // Counts an answered line for the rate limits and for the host. A line end without an answer, such as the second
     // one of CR LF, keeps its token for the next line.
-    fn spend(&mut self, took: Duration, outgoing: &Outgoing<J>) {
+    fn spend(&mut self, now: Duration, took: Duration, outgoing: &Outgoing<J>) {
         let (rt, control) = (self.rt, &self.state.control);
         if outgoing.has_line && outgoing.text.is_empty() {
             self.habits.pace.give_back();
@@ -214,7 +214,7 @@ impl<'a, J: HallName, R: Threads + Wait + Log + Clock + Sync> Reading<'a, J, R> 
         let has_changed = outgoing.accepted.is_some();
         self.habits
             .pace
-            .spend(rt, &control.excess, now(rt), took, has_changed);
+            .spend(rt, &control.excess, now, took, has_changed);
     }
 
     // Names the session's player in the log and for the host, once there is one.
@@ -236,11 +236,11 @@ impl<'a, J: HallName, R: Threads + Wait + Log + Clock + Sync> Reading<'a, J, R> 
 
     // Announces a change of the session to the others: there are at least that many entries. With its first change it
     // counts as a player's.
-    fn tell_change(&mut self, outgoing: &Outgoing<J>) {
+    fn tell_change(&mut self, outgoing: &Outgoing<J>, now: Duration) {
         let Some(version) = outgoing.accepted else {
             return;
         };
-        self.state.announce_change(self.rt, self.at, version);
+        self.state.announce_change(self.rt, self.at, version, now);
         self.state.control.tally.count_change(version as u64);
         self.state.warn_if_nearly_full(self.rt, version);
         if !self.habits.is_counted {
@@ -249,16 +249,12 @@ impl<'a, J: HallName, R: Threads + Wait + Log + Clock + Sync> Reading<'a, J, R> 
         }
     }
 
-    // Finishes a step: announces its change, ends the time limit for a player once there is one, and tells the notice
-    // thread when a line was answered.
-    fn tell(&mut self, outgoing: &Outgoing<J>) {
-        self.tell_change(outgoing);
+    // Finishes a step at the time `now`: announces its change, and ends the time limit for a player once there is one.
+    fn tell(&mut self, outgoing: &Outgoing<J>, now: Duration) {
+        self.tell_change(outgoing, now);
         if outgoing.has_player {
             self.habits.has_player = true;
             self.habits.patience.name();
-        }
-        if outgoing.has_line {
-            self.connection.note_answer(now(self.rt));
         }
     }
 
@@ -274,7 +270,7 @@ impl<'a, J: HallName, R: Threads + Wait + Log + Clock + Sync> Reading<'a, J, R> 
             return self.put_off(bytes);
         }
         let mut guard = connection.client().lock(rt);
-        if let Some(ending) = connection.ending(rt, state) {
+        if let Some(ending) = connection.ending(state) {
             connection.end(rt, &mut guard, ending);
             return None;
         }
@@ -285,10 +281,10 @@ impl<'a, J: HallName, R: Threads + Wait + Log + Clock + Sync> Reading<'a, J, R> 
         let begun = now(rt);
         let (workers, most) = (state.limits.workers, synced_entries(state));
         let (after, outgoing) = before.feed(rt, &state.hall, workers, most, bytes);
-        let took = now(rt).saturating_sub(begun);
+        let ended = now(rt);
         *guard = Some(after);
-        self.tell(&outgoing);
-        self.spend(took, &outgoing);
+        self.tell(&outgoing, ended);
+        self.spend(ended, ended.saturating_sub(begun), &outgoing);
         let (has_line, has_more) = (outgoing.has_line, outgoing.has_more);
         let goes_on = connection.send(rt, state, &mut guard, outgoing);
         drop(guard);

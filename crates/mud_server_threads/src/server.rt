@@ -143,13 +143,13 @@ where
         let parker = Parker::new(self.alloc).ok()?;
         let unparker = parker.unparker().clone().ok()?;
         let theirs = Arc::try_clone(&socket).ok()?;
-        let member = Member::new(unparker, theirs, now(self.rt), unix_seconds(self.rt));
+        let member = Member::new(unparker, theirs, unix_seconds(self.rt));
         let control = &self.state.control;
         let connection = Connection::new(socket, control.news.count());
         let kept = Arc::new(self.alloc, connection).ok()?;
         let reads = Arc::try_clone(&kept).ok()?;
         let tells = Arc::try_clone(&kept).ok()?;
-        control.roster.enter(self.rt, at, member);
+        let visit = control.roster.enter(self.rt, at, member, now(self.rt));
         let number = kept.start(self.rt, self.alloc, self.state, at)?;
         control.roster.number(self.rt, at, number);
         self.dismiss_banned(&kept);
@@ -157,7 +157,7 @@ where
             kept,
             reads,
             tells,
-            sleeper: Sleeper { parker },
+            sleeper: Sleeper { parker, at, visit },
             number,
         })
     }
@@ -239,11 +239,12 @@ where
         let parker = Parker::new(alloc).ok()?;
         let unparker = parker.unparker().clone().ok()?;
         let theirs = Arc::try_clone(&socket).ok()?;
-        let member = Member::new(unparker, theirs, habits.since, habits.since_seconds);
+        let member = Member::new(unparker, theirs, habits.since_seconds);
         let kept = Arc::new(alloc, Connection::new(socket, told)).ok()?;
         let reads = Arc::try_clone(&kept).ok()?;
         let tells = Arc::try_clone(&kept).ok()?;
-        self.state.control.roster.enter(rt, at, member);
+        let heard = habits.patience.last_line();
+        let visit = self.state.control.roster.enter(rt, at, member, heard);
         let number = kept.go_on(rt, alloc, self.state, at, client, self.quay)?;
         self.state.control.roster.number(rt, at, number);
         self.dismiss_banned(&kept);
@@ -251,7 +252,7 @@ where
             kept,
             reads,
             tells,
-            sleeper: Sleeper { parker },
+            sleeper: Sleeper { parker, at, visit },
             number,
         })
     }

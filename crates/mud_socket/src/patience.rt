@@ -95,6 +95,13 @@ impl Patience {
         self.last_line = now;
     }
 
+    /// Returns the time of the last line, or of the start if there was none.
+    pub fn last_line(&self) -> Duration
+        ensures { as_nanos result ≡ self.now.last_line }
+    {
+        self.last_line
+    }
+
     /// Returns whether there was a limit at the start.
     pub fn is_limited(&self) -> bool
         ensures { result ≡ false → (self.now.idle ≡ None) × (self.now.unnamed ≡ None) }

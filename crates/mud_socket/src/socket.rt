@@ -10,7 +10,7 @@ use crate::time::now;
 use std::alloc::Global;
 use std::io::{ErrorKind, Read, Write};
 use std::net::{IpAddr, Ipv4Addr, Shutdown, SocketAddr, TcpStream};
-use std::sync::atomic::{AtomicBool, AtomicU64, Ordering};
+use std::sync::atomic::{AtomicBool, Ordering};
 use std::sync::{Mutex, Wait};
 use std::time::{Clock, Duration};
 
@@ -63,8 +63,6 @@ pub struct Socket {
     stream: TcpStream,
     entrance: Entrance,
     parting: Mutex<Option<Parting>>,
-    // The time of the last line, in microseconds; 0 if there was none.
-    heard: AtomicU64,
     // True once the host ends the session.
     is_dismissed: AtomicBool,
     // True while the session rests between two volumes, or is about to.
@@ -104,7 +102,6 @@ impl Socket {
             stream,
             entrance,
             parting: Mutex::new(None),
-            heard: AtomicU64::new(0),
             is_dismissed: AtomicBool::new(false),
             is_resting: AtomicBool::new(false),
             kept: Mutex::new(Vec::new(alloc)),
@@ -154,17 +151,6 @@ impl Socket {
     pub fn peer(&self) -> SocketAddr {
         let nobody = SocketAddr::new(IpAddr::V4(Ipv4Addr::UNSPECIFIED), 0);
         canonical(self.stream.peer_addr().unwrap_or(nobody))
-    }
-
-    /// Records that a line came now.
-    pub fn hear(&self, now: Duration) {
-        let micros = u64::try_from(now.as_micros()).unwrap_or(u64::MAX);
-        self.heard.store(micros, Ordering::Relaxed);
-    }
-
-    /// Returns the time of the last line, or zero if there was none.
-    pub fn last_heard(&self) -> Duration {
-        Duration::from_micros(self.heard.load(Ordering::Relaxed))
     }
 
     /// Records that the host ends the session.

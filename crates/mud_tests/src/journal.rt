@@ -13,7 +13,7 @@ use mud_io::Sink;
 use mud_journal::{
     Appends, Disk, DiskFault, Found, Journal, JournalFault, Nameless, OpenFault, recover,
 };
-use mud_server::{Doors, Hosting, Limits, ServerFault, listen_journaled};
+use mud_server_volume::{Doors, Hosting, Limits, ServerFault, listen_journaled};
 use std::alloc::{AllocError, Global};
 use std::io::Write;
 use std::net::{Ipv4Addr, Net, SocketAddr, TcpListener, TcpStream};

@@ -1,4 +1,4 @@
 use Rattle.mud_search.proofs.alone.labels_alone.Given as goal
 
-abbrev pub ghosts-alone_for : goal.ghosts-alone_for
-ghosts-alone_for a = record { world = a.world.now; travellers = a.travellers.now }
+abbrev pub ghosts-labels_uncounted : goal.ghosts-labels_uncounted
+ghosts-labels_uncounted a = record { name = a.blank.name; parts = a.blank.parts }

@@ -1,5 +1,0 @@
-use Rattle.mud_server.proofs.Deciding.{no_turn_at_once}
-use Rattle.mud_server.proofs.laws.no_turn_at_once.Goals as goal
-
-pub returns : goal.returns
-returns c = no_turn_at_once

@@ -1,0 +1,3 @@
+mod Crosses
+mod Prefixes
+mod Deciding

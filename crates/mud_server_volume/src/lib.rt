@@ -1,0 +1,46 @@
+//! One volume of a server: many sessions at a time, over connections, in one hall.
+//!
+//! [`listen_on`] serves Telnet connections and browsers, each with a session of its own at a desk of one hall. At the
+//! end it closes the hall and writes its history. [`listen_journaled`] also keeps the history on a disk. For a server
+//! with volumes, [`serve_volume`] serves one of them, and ends early if it is time to turn to the next. docs/SERVER.md
+//! has the threads, their locks, which thread wakes which, and how all of them end.
+//!
+//! Threads: the caller's thread writes the journal, and owns it. One more accepts connections, and owns the listeners;
+//! it starts those of `mud_server_threads`, and the search for a shorter history. All of them end before the volume
+//! does, and none outlives the shared state, which the caller's thread owns.
+//!
+//! ```
+//! let doors = Doors { telnet: TcpListener::bind(&rt, ("127.0.0.1", 4000))?, web: None };
+//! let limits = Limits {
+//!     sessions: 64, per_address: 0, total: 2, counts_players: false, workers: 0, capacity: 1000, idle: 0, unnamed: 0,
+//! };
+//! let hosting = Hosting::alone(rt.alloc(), 64)?;
+//! let mut sink = Sink::new(io::writer(&rt));
+//! listen_on(&rt, doors, limits, Vec::new(rt.alloc()), hosting, &mut sink)?;
+//! ```
+//!
+//! Proved: the output. With Ok it is the lines that name the ports, and the text of a history. That history can be
+//! loaded again, begins with the loaded entries, and has no more desks after them than simultaneous sessions. After a
+//! fault the output is a prefix of such a text. No contract states that the history is that of the sessions, that any
+//! session is served, that a change wakes a thread, or that a desk is returned; tests show it.
+#![tactic(auto)]
+
+mod census;
+mod journaled;
+pub mod laws;
+mod listen;
+pub mod marks;
+mod proposal;
+mod turning;
+mod volume;
+
+pub use census::count_objects;
+pub use journaled::listen_journaled;
+pub use listen::{Served, is_well_ended, listen_on, ports_of, resume_hall, try_entries};
+pub use mud_control::{Control, Hosting, Rates, StopSign};
+pub use mud_listeners::{Doors, Site, WebDoor};
+pub use mud_server_end::ServerFault;
+pub use mud_server_state::Limits;
+pub use proposal::{Proposal, copies};
+pub use turning::{Turning, tell_large};
+pub use volume::{Beginning, Company, Ended, Terms, new_company, part_all, serve_volume};

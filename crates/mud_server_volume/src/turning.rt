@@ -1,0 +1,256 @@
+//! The plan for the turn of a volume, and the search for a shorter history, which runs beside play.
+
+use crate::marks::{Fill, Progress, Step, last_mark, retry_step};
+use crate::proposal::{Proposal, copies};
+use log::{Log, warn};
+use mud_chron::Entry;
+use mud_compact::shorten;
+use mud_control::Tally;
+use mud_hall::HallName;
+use mud_server_threads::{Server, StateOf};
+use std::alloc::{AllocError, Global};
+use std::sync::{Mutex, Wait};
+use std::thread::Threads;
+use std::time::Clock;
+
+/// The result of a search.
+#[derive(Drop)]
+enum Searched {
+    Idle,
+    Runs,
+    Found(Proposal),
+}
+
+/// The plan for a turn, under a lock: the search, and the number of changes below which the server does not turn by
+/// itself. The flags are true if the host requested the next volume, and if the world takes most of a volume by itself.
+#[derive(Drop)]
+struct Plan {
+    searched: Searched,
+    least: usize,
+    is_requested: bool,
+    is_large: bool,
+}
+
+/// The turn of a volume: its number, the entries that it began with, and its plan; `None` if the server never turns.
+#[derive(Drop)]
+pub struct Turning {
+    volume: u32,
+    loaded: Vec<Entry>,
+    plan: Option<Mutex<Plan>>,
+}
+
+impl Plan {
+    // Returns how far the search is, in a history with this many changes.
+    fn progress(&self, changes: usize) -> Progress {
+        match &self.searched {
+            Searched::Idle => Progress::Idle,
+            Searched::Runs => Progress::Runs,
+            Searched::Found(found) => {
+                let more = changes.saturating_sub(found.up_to);
+                Progress::Found(found.entries.len().saturating_add(more))
+            }
+        }
+    }
+
+    // Returns the number of changes from which lines wait for the turn. In a large world they never do.
+    fn held_from(&self, capacity: usize) -> u64 {
+        if self.is_large {
+            return u64::MAX;
+        }
+        last_mark(capacity).max(self.least) as u64
+    }
+
+    // Drops what the search found, and searches again only after some more changes. Returns the number of changes that
+    // the world takes by itself.
+    fn drop_found(&mut self, capacity: usize) -> usize {
+        let (mut taken, mut up_to) = (0, 0);
+        if let Searched::Found(found) = &self.searched {
+            (taken, up_to) = (found.entries.len(), found.up_to);
+        }
+        self.searched = Searched::Idle;
+        self.least = up_to.saturating_add(retry_step(capacity));
+        self.is_requested = false;
+        self.is_large = true;
+        taken
+    }
+}
+
+impl Turning {
+    /// Returns the state of a server that never turns.
+    pub fn never(alloc: Global) -> Turning {
+        Turning {
+            volume: 1,
+            loaded: Vec::new(alloc),
+            plan: None,
+        }
+    }
+
+    /// Returns the state of a volume with this number, which began with these entries. It does not turn by itself below
+    /// `least` changes.
+    pub fn new(volume: u32, loaded: Vec<Entry>, least: usize, is_large: bool) -> Turning {
+        Turning {
+            volume,
+            loaded,
+            plan: Some(Mutex::new(Plan {
+                searched: Searched::Idle,
+                least,
+                is_requested: false,
+                is_large,
+            })),
+        }
+    }
+
+    /// Returns what the search proposes.
+    pub(crate) fn into_proposal(self) -> Option<Proposal> {
+        match self.plan?.into_inner().searched {
+            Searched::Found(found) => Some(found),
+            _ => None,
+        }
+    }
+
+    /// Tells the sessions from when on their lines wait for the turn.
+    pub(crate) fn begin<J: HallName, R: Wait>(&self, rt: &R, state: &StateOf<J>) {
+        if let Some(plan) = &self.plan {
+            let from = plan.lock(rt).held_from(state.limits.capacity as usize);
+            state.hold_from(from);
+        }
+    }
+
+    /// Starts the search if it is time for it. Returns whether the server should turn now.
+    pub(crate) fn is_due<'s, E, J, R>(&'s self, server: &Server<'s, E, J, R>) -> bool
+    where
+        J: HallName + Send + Sync + 's,
+        R: Threads + Wait + Log + Clock + Sync + 's,
+    {
+        let Some(plan) = &self.plan else {
+            return false;
+        };
+        let control = &server.state.control;
+        let mut plan = plan.lock(server.rt);
+        plan.is_requested = control.take_request() || plan.is_requested;
+        let fill = Fill {
+            capacity: server.state.limits.capacity as usize,
+            changes: control.tally.changes() as usize,
+            least: plan.least,
+            is_requested: plan.is_requested,
+        };
+        match fill.step(plan.progress(fill.changes), plan.is_large) {
+            Step::Turn => return true,
+            Step::Wait => {}
+            Step::Search => {
+                plan.searched = Searched::Runs;
+                drop(plan);
+                self.begin_search(server);
+            }
+            Step::Drop => {
+                let taken = plan.drop_found(fill.capacity);
+                server.state.hold_from(plan.held_from(fill.capacity));
+                drop(plan);
+                let (tally, most) = (&control.tally, fill.capacity);
+                tell_large(
+                    server.rt,
+                    tally,
+                    self.volume,
+                    taken,
+                    most,
+                    fill.is_requested,
+                );
+            }
+        }
+        false
+    }
+
+    // Starts the thread that searches for a proposal.
+    fn begin_search<'s, E, J, R>(&'s self, server: &Server<'s, E, J, R>)
+    where
+        J: HallName + Send + Sync + 's,
+        R: Threads + Wait + Log + Clock + Sync + 's,
+    {
+        let other = server.again();
+        let searching = server.scope.spawn(move || self.search(&other));
+        if searching.is_err() {
+            self.end_search(server, None);
+        }
+    }
+
+    // Records what the search found. If it found nothing, because memory or a thread lacks, it is tried again later.
+    fn end_search<'s, E, J, R>(&self, server: &Server<'s, E, J, R>, found: Option<Proposal>)
+    where
+        J: HallName + Send + Sync + 's,
+        R: Threads + Wait + Log + Clock + Sync + 's,
+    {
+        let Some(plan) = &self.plan else {
+            return;
+        };
+        let mut plan = plan.lock(server.rt);
+        match found {
+            Some(found) => plan.searched = Searched::Found(found),
+            None => {
+                let changes = server.state.control.tally.changes() as usize;
+                let capacity = server.state.limits.capacity as usize;
+                plan.searched = Searched::Idle;
+                plan.is_requested = false;
+                plan.least = changes.saturating_add(retry_step(capacity));
+                server.state.hold_from(plan.held_from(capacity));
+            }
+        }
+    }
+
+    // Searches for a shorter history of the present world.
+    fn search<'s, E, J, R>(&self, server: &Server<'s, E, J, R>)
+    where
+        J: HallName + Send + Sync + 's,
+        R: Threads + Wait + Log + Clock + Sync + 's,
+    {
+        let found = match self.read(server.rt, server.alloc, server.state) {
+            Some(entries) => propose(server.alloc, &entries),
+            None => None,
+        };
+        self.end_search(server, found);
+    }
+
+    // Returns the present history, or `None` if an allocation fails.
+    fn read<J: HallName, R: Wait>(
+        &self,
+        rt: &R,
+        alloc: Global,
+        state: &StateOf<J>,
+    ) -> Option<Vec<Entry>> {
+        let mut reader = state.hall.reader(rt).ok()?;
+        let mut entries = copies(alloc, &self.loaded).ok()?;
+        let more = reader.read(alloc, &state.hall, state.limits.capacity).ok()?;
+        for entry in more {
+            entries.push(entry).ok()?;
+        }
+        Some(entries)
+    }
+}
+
+// Returns a shorter history of the world of these entries, or `None` if an allocation fails.
+fn propose(alloc: Global, entries: &[Entry]) -> Option<Proposal> {
+    match shorten(alloc, entries) {
+        Ok(shorter) => Some(Proposal {
+            up_to: entries.len(),
+            entries: shorter,
+        }),
+        Err(_) => None,
+    }
+}
+
+/// Records that the world of a volume takes this many changes by itself, most of the volume. The log says so once until
+/// the next turn, and, if a turn was due, that there is no turn.
+pub fn tell_large<R: Log>(
+    rt: &R,
+    tally: &Tally,
+    volume: u32,
+    taken: usize,
+    most: usize,
+    is_due: bool,
+) {
+    if !tally.note_large_world(taken as u64) {
+        warn!(rt; "large-world volume={volume} takes={taken} most={most}");
+    }
+    if is_due {
+        warn!(rt; "no-turn volume={volume} why=\"the world takes most of a volume\"");
+    }
+}

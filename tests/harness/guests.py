@@ -40,6 +40,9 @@ LASTING = [errno.EBADF, errno.EINVAL, errno.ENOTSOCK]
 # The number of lines said while one client reads nothing, their number at once, and the longest time for another's
 # answer.
 SAID, PIECE, LONGEST_WAIT = 30_000, 500, 0.3
+# How many times a player types for some seconds and stops, and the longest wait for the notice of that moment. With
+# these silent guests beside, a player counts as typing for a millisecond after an answer.
+STOPS, TYPED, NOTICE_WAIT, SILENT = 20, 0.3, 0.1, 30
 # The number and the length of the texts in a history that is longer than a connection's buffer.
 TEXTS, TEXT_LEN = 8_000, 890
 # The number of connections while nobody reads the log.
@@ -331,6 +334,40 @@ def why_behind():
         return "" if max(waits) < LONGEST_WAIT else f"another waits for {max(waits)} s"
 
 
+def type_on(client, seconds):
+    """Types questions for this many seconds, each after the last answer."""
+    end = time.monotonic() + seconds
+    while time.monotonic() < end:
+        client.send(b"@version")
+        while b"version" not in client.line():
+            pass
+
+
+def wait_for(client, text):
+    """Returns the seconds until a client has read a line with this text."""
+    began = time.monotonic()
+    while text not in client.line():
+        pass
+    return time.monotonic() - began
+
+
+def why_late():
+    """A player types without a pause, and stops. A line said at that moment comes soon, though nobody says more."""
+    with listening() as server:
+        silent = [greeted(server.port) for _ in range(SILENT)]
+        one, other = named(server.port, b"Ann"), named(server.port, b"Bob")
+        waits = []
+        for number in range(STOPS):
+            other.send(b"say begin")
+            type_on(one, TYPED)
+            one.send(b"@version")
+            other.send(b"say end %d" % number)
+            waits.append(wait_for(one, b"end %d" % number))
+        for client in silent:
+            client.close()
+        return "" if max(waits) < NOTICE_WAIT else f"the notice comes after {max(waits):.3f} s"
+
+
 def why_stop_within():
     """The server stops while a long text is sent: the reason comes after the text, or not at all."""
     with listening() as server:
@@ -435,6 +472,7 @@ def guests(count):
     show("one comes behind the total", why_total)
     show("those who leave unnamed don't count", why_counted)
     show("one reads nothing while much is said", why_behind)
+    show("one stops typing, and another speaks once", why_late)
     show("a long text is sent at a stop", why_stop_within)
     show("nobody reads the log", why_log)
     show("the log names what ended a session", why_partings)

@@ -81,9 +81,17 @@ def ring_routes():
 SAY = Line("say hello there everybody", [], ["say hello there everybody"])
 GO = Line("go X, there and back", ['@dig there|back to "Another room"'], ["go there", "go back"])
 RING = Line("route in a ring with chords", ring(), ring_routes(), fewer=5, more=20)
-# These routes, each after a line that opens and closes nothing for the player, or all after a recycling.
-AFTER_TALK = RING._replace(what="route after talk", asked=[f"say hi\n{line}" for line in RING.asked])
-AFTER_WALK = RING._replace(what="route after a walk", asked=[f"go next\n{line}" for line in RING.asked])
+# Lines that open and close nothing for the player, each with its own cost beside that of a route.
+KEEPING = {
+    "talk": "say hi",
+    "a walk": "go next",
+    "a thing is made": "@create axe",
+    "a room is dug": '@dig "Cellar"',
+    "an exit is dug": "@dig stair to #2",
+    "a cost is set": "@cost #3 is 2",
+    "a name is set": "@rename #0 to \"The Hall\"",
+}
+# These routes, all after a recycling.
 AFTER_RECYCLING = RING._replace(what="route after a recycling", world=[*RING.world, "@create axe", "@recycle axe"])
 # How many times the usual cost such a route may take.
 TIMES_USUAL = 1.1
@@ -104,10 +112,12 @@ def why_dear(line, bound, right):
     return f"{cost:,.0f} instructions, and the bound is {bound:,}" if cost > SLACK * bound else ""
 
 
-def why_dearer(line, usual):
+def why_dearer(line, alone=None):
     """Returns why the routes of a line are not all answered, or cost more than they may beside the usual ones, or
-    nothing."""
-    (cost, told), (least, _) = (cost_of([program("mud_serve"), "script"], it) for it in (line, usual))
+    nothing. `alone` are the lines between them, whose own cost doesn't count."""
+    serve = [program("mud_serve"), "script"]
+    (cost, told), (least, _) = (cost_of(serve, it) for it in (line, RING))
+    cost -= cost_of(serve, alone)[0] if alone else 0
     answered = sum(answer.partition(" ")[2].startswith("route #") for answer in told.decode().splitlines())
     if answered != line.fewer + line.more:
         return f"{answered} routes"
@@ -120,5 +130,7 @@ def line_costs(count):
         raise Skipped("valgrind is not there")
     for line, bound, right in BOUNDS:
         count.tries(f"line costs: {line.what}", why_dear, line, bound, right)
-    for line in (AFTER_TALK, AFTER_WALK, AFTER_RECYCLING):
-        count.tries(f"line costs: {line.what}", why_dearer, line, RING)
+    count.tries(f"line costs: {AFTER_RECYCLING.what}", why_dearer, AFTER_RECYCLING)
+    for what, line in KEEPING.items():
+        after = RING._replace(asked=[f"{line}\n{route}" for route in RING.asked])
+        count.tries(f"line costs: route after {what}", why_dearer, after, RING._replace(asked=[line]))

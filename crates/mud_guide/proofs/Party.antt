@@ -1,6 +1,6 @@
 -- The claims about a party are true, and the certificate is valid.
 use Rattle.std.proofs.Common.{◌≡◌, ◌≢◌, ℕ, suc, zero, ◌<◌, inl, inr, List, [], ◌∷◌, length, map, get_or, Option, None}
-use Rattle.std.proofs.Common.{Some, refl, sym, ◌∙◌, ap, subst, arith}
+use Rattle.std.proofs.Common.{Some, false, refl, sym, ◌∙◌, ap, subst, arith}
 use Rattle.std.specs.Prelude.{All, AllPairs, IfSome, IsTrue}
 use Rattle.std.specs.Option.{option_map}
 use Rattle.std.specs.List.{AllZip}
@@ -69,7 +69,7 @@ pub record IsParty (w : State) (to : Option ℕ) (ts : List Knowledge) (js : Lis
   pub listed : AreListed labels w.next js es
 
 abbrev pub nobody : Knowledge
-nobody = knowledge_of 0 0 [] []
+nobody = knowledge_of 0 0 false [] []
 
 abbrev pub nowhere : Leg
 nowhere = record { player = 0; from = 0; way = None }

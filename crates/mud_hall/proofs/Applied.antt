@@ -7,7 +7,7 @@ use Rattle.mud_world.specs.State.{State}
 use Rattle.mud_world.specs.Legal.{refusal, after}
 use Rattle.mud_world.specs.History.{step_or_same}
 use Rattle.mud_world.specs.declared.change.Change.{Change}
-use Rattle.mud_roads.specs.Passable.{Knowledge, IsTraveller}
+use Rattle.mud_roads.specs.Passable.{Knowledge, IsFollower}
 use Rattle.mud_chron.specs.Entry.{Entry}
 use Rattle.mud_chron.specs.Replay.{world_at}
 use Rattle.mud_row.specs.Known.{Standing}
@@ -34,7 +34,7 @@ next-world was new e is =
 -- a desk whose replica applied an entry belongs to its hall, with a traveller of the world after it
 pub held-next : (cells : List ℕ) (loaded : List Entry) (number : ℕ) (player : Option ℕ) (t u : Option Knowledge)
     (was new : Standing) (e : Entry) → IsHeld cells loaded number player t was → Applies was new e
-    → IfSome u (IsTraveller (world_at new.list new.at)) → IsHeld cells loaded number player u new
+    → IfSome u (IsFollower (world_at new.list new.at)) → IsHeld cells loaded number player u new
 held-next cells loaded number player t u was new e held is known = record {
   row = is.row ∙ held.row;
   begun = subst (IsPrefix loaded) (sym is.list) held.begun;

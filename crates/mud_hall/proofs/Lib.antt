@@ -19,4 +19,5 @@ pub mod Guiding
 pub mod Sample
 pub mod Coming
 pub mod Applied
+pub mod Travelling
 mod Sitting

@@ -15,7 +15,7 @@ use Rattle.mud_world.specs.declared.refusal.Refusal.{Refusal}
 use Rattle.mud_world.proofs.Worlds.{step-sound}
 use Rattle.mud_world.proofs.Players.{players_stay}
 use Rattle.mud_chron.specs.Entry.{Entry}
-use Rattle.mud_roads.specs.Passable.{Knowledge, IsTraveller}
+use Rattle.mud_roads.specs.Passable.{Knowledge, IsFollower}
 use Rattle.mud_chron.specs.Replay.{changes_of, world_at}
 use Rattle.mud_hall.specs.Notices.{world_after}
 use Rattle.mud_row.specs.Known.{Standing}
@@ -63,11 +63,11 @@ at-stays was new more at within =
     ∙ ap world_after (ap (λ l. take was.at l) (sym more.1) ∙ take-append-le was.at was.list more.0 within)
 
 -- and neither does the traveller in it
-pub known-on : (t : Option Knowledge) (was new : Standing) → IfSome t (IsTraveller (world_at was.list was.at))
+pub known-on : (t : Option Knowledge) (was new : Standing) → IfSome t (IsFollower (world_at was.list was.at))
     → IsPrefix was.list new.list → new.at ≡ was.at → was.at ≤ length was.list
-    → IfSome t (IsTraveller (world_at new.list new.at))
+    → IfSome t (IsFollower (world_at new.list new.at))
 known-on t was new known more at within =
-    subst (λ (w : State). IfSome t (IsTraveller w)) (sym (at-stays was new more at within)) known
+    subst (λ (w : State). IfSome t (IsFollower w)) (sym (at-stays was new more at within)) known
 
 -- a desk whose replica comes to know more still belongs to its hall
 pub held-on : (cells : List ℕ) (loaded : List Entry) (number : ℕ) (player : Option ℕ) (t : Option Knowledge)

@@ -1,7 +1,7 @@
 -- A single-user desk.
 use Rattle.std.specs.Prelude.{◌≡◌, ◌≤◌, ◌<◌, ℕ, List, length, Option, Ok, IfSome, IsTrue}
 use Rattle.mud_world.specs.State.{State, is_player}
-use Rattle.mud_roads.specs.Passable.{Knowledge, IsTraveller}
+use Rattle.mud_roads.specs.Passable.{Knowledge, IsFollower}
 use Rattle.mud_world.specs.declared.limits.TheConstants.{MOST_ENTRIES}
 use Rattle.mud_chron.specs.Entry.{Entry}
 use Rattle.mud_chron.specs.Replay.{changes_of, AreLegal, IsFirstIllegal}
@@ -47,4 +47,4 @@ pub record IsAlone (capacity player : ℕ) (t : Option Knowledge) (w : State) (h
   pub room : length h ≤ capacity
   pub few : capacity ≤ MOST_ENTRIES
   pub plays : IsTrue (is_player w player)
-  pub known : IfSome t (IsTraveller w)
+  pub known : IfSome t (IsFollower w)

@@ -5,7 +5,7 @@ use mathlib.Core.List.{IsPrefix}
 use Rattle.mud_world.specs.State.{is_player}
 use Rattle.mud_world.specs.Legal.{is_arrival}
 use Rattle.mud_world.specs.declared.change.Change.{Change}
-use Rattle.mud_roads.specs.Passable.{Knowledge, IsTraveller}
+use Rattle.mud_roads.specs.Passable.{Knowledge, IsFollower}
 use Rattle.mud_chron.specs.declared.limits.TheConstants.{MOST_DESKS}
 use Rattle.mud_chron.specs.Entry.{Entry}
 use Rattle.mud_chron.specs.Replay.{world_at}
@@ -84,7 +84,7 @@ pub record IsHeld (cells : List ℕ) (loaded : List Entry) (number : ℕ) (playe
   pub from : 1 ≤ number
   pub to : number ≤ MOST_DESKS
   pub seated : IfSome player (λ p. IsTrue (is_player (world_after r.list) p))
-  pub known : IfSome t (IsTraveller (world_at r.list r.at))
+  pub known : IfSome t (IsFollower (world_at r.list r.at))
 
 -- the invariant of the state under the hall's lock. A reader need not look into this: contracts only pass it on
 pub record IsKept (cells : List ℕ) (loaded : List Entry) (given : ℕ) (start : Known) : Type 0 where

@@ -4,7 +4,7 @@ ghost use Rattle.std.specs.Prelude.{◌≡◌, ◌≤◌, None, IfOk, string_byt
 ghost use Rattle.std.specs.Option.{IsSome};
 ghost use Rattle.mud_words.specs.Line.{line_of};
 ghost use Rattle.mud_world.specs.State.{is_player};
-ghost use Rattle.mud_roads.specs.Passable.{IsTraveller};
+ghost use Rattle.mud_roads.specs.Passable.{IsFollower};
 ghost use Rattle.mud_rules.specs.Outcome.{IsLawful};
 ghost use Rattle.mud_rules.specs.inner.Outcome.{IsJourney, IsQuestion};
 ghost use Rattle.mud_rules.specs.Replies.{refusal_text};
@@ -39,8 +39,8 @@ pub(crate) fn respond<S: Guide>(
     requires ready { S.ready by.now }
     requires version { version ≤ MOST_ENTRIES }
     requires seated { IfSome player (λ p. IsTrue (is_player world.now p)) }
-    requires known { IfSome traveller.old (IsTraveller world.now) }
-    ensures known { IfSome traveller.new (IsTraveller world.now) }
+    requires known { IfSome traveller.old (IsFollower world.now) }
+    ensures known { IfSome traveller.new (IsFollower world.now) }
     ensures response { IfOk result
         (IsResponse world.now version player (decision world.now player (line_of said.now))) }
 {
@@ -144,7 +144,7 @@ impl Sight<'_> {
         let Some(player) = self.player else {
             unreachable!();
         };
-        let traveller = traveller_of(self.traveller, player);
+        let traveller = traveller_of(self.world, self.traveller, player);
         by.journey(
             self.alloc,
             self.world,

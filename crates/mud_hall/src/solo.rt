@@ -6,7 +6,7 @@ ghost use Rattle.std.specs.Prelude.{MatchOption};
 ghost use Rattle.std.specs.Thread.{IsSync};
 ghost use Rattle.mud_world.specs.State.{is_player};
 ghost use Rattle.mud_world.specs.Legal.{refusal, after};
-ghost use Rattle.mud_roads.specs.Passable.{IsTraveller};
+ghost use Rattle.mud_roads.specs.Passable.{IsFollower};
 ghost use Rattle.mud_world.specs.declared.limits.TheConstants.{MOST_ENTRIES};
 ghost use Rattle.mud_chron.specs.inner.Texts.{written_text};
 ghost use Rattle.mud_words.specs.Line.{line_of};
@@ -337,8 +337,8 @@ fn respond<R: Threads + Wait + Sync>(
 ) -> Result<Option<Answer>, AllocError>
     requires version { version ≤ MOST_ENTRIES }
     requires seated { IsTrue (is_player world.now player) }
-    requires known { IfSome traveller.old (IsTraveller world.now) }
-    ensures known { IfSome traveller.new (IsTraveller world.now) }
+    requires known { IfSome traveller.old (IsFollower world.now) }
+    ensures known { IfSome traveller.new (IsFollower world.now) }
     ensures response { IfOk result
         (IsResponse world.now version (Some player) (decision world.now (Some player) (line_of said.now))) }
 {

@@ -1,18 +1,19 @@
 //! Travellers, computed once for each world and player.
 
-ghost use Rattle.std.specs.Prelude.{◌≡◌, Some, IfSome, IsTrue};
+ghost use Rattle.std.specs.Prelude.{◌≡◌, IfSome, IsTrue};
 ghost use Rattle.mud_world.specs.State.{State, is_player};
 ghost use Rattle.mud_world.specs.Sound.{IsSound};
 ghost use Rattle.mud_world.specs.History.{step_or_same};
-ghost use Rattle.mud_roads.specs.Passable.{IsTraveller, keeps_roads};
+ghost use Rattle.mud_roads.specs.Passable.{IsFollower, keeps_exits};
+ghost use Rattle.mud_hall.specs.inner.Desks.{Travels};
 
 use mud_roads::Traveller;
 use mud_rules::{Journey, Query, Verdict};
 use mud_world::{Change, Deed, World};
 use std::alloc::{AllocError, Global};
 
-/// Computes the traveller of the player who asks for a route, unless it is known. If an allocation fails, the known one
-/// stays.
+/// Computes the traveller of the player who asks for a route, or makes the known one current. If an allocation fails,
+/// the known one stays.
 pub(crate) fn find_traveller(
     alloc: Global,
     world: &World,
@@ -21,51 +22,72 @@ pub(crate) fn find_traveller(
     verdict: &Verdict,
 ) -> Result<(), AllocError>
     requires seated { IfSome player (λ p. IsTrue (is_player world.now p)) }
-    requires known { IfSome traveller.old (IsTraveller world.now) }
-    ensures { IfSome traveller.new (IsTraveller world.now) }
+    requires known { IfSome traveller.old (IsFollower world.now) }
+    ensures { IfSome traveller.new (IsFollower world.now) }
 {
-    let Some(player) = player else {
-        return Ok(());
-    };
-    if asks_route(verdict) && traveller_of(traveller, player).is_none() {
-        *traveller = Some(Traveller::of(alloc, world, player)?);
+    match player {
+        Some(player) if asks_route(verdict) => renew(alloc, world, player, traveller),
+        _ => Ok(()),
     }
-    Ok(())
 }
 
-/// Returns the traveller, if it is this player.
-pub(crate) fn traveller_of(traveller: &Option<Traveller>, player: u32) -> Option<&Traveller>
-    ensures { IfSome result (λ t. (traveller.now ≡ Some t.now) × (t.now.player ≡ player)) }
+// Makes the known traveller current if it is this player, and a new one otherwise.
+fn renew(
+    alloc: Global,
+    world: &World,
+    player: u32,
+    traveller: &mut Option<Traveller>,
+) -> Result<(), AllocError>
+    requires seated { IsTrue (is_player world.now player) }
+    requires known { IfSome traveller.old (IsFollower world.now) }
+    ensures { IfSome traveller.new (IsFollower world.now) }
 {
     match traveller {
-        Some(traveller) if traveller.player() == player => Some(traveller),
+        Some(known) if known.player() == player => known.refresh(alloc, world),
+        _ => {
+            *traveller = Some(Traveller::of(alloc, world, player)?);
+            Ok(())
+        }
+    }
+}
+
+/// Returns the traveller, if it is this player and current.
+pub(crate) fn traveller_of<'a>(
+    world: &World,
+    traveller: &'a Option<Traveller>,
+    player: u32,
+) -> Option<&'a Traveller>
+    requires { IfSome traveller.now (IsFollower world.now) }
+    ensures { IfSome result (λ t. Travels world.now player t.now) }
+{
+    match traveller {
+        Some(traveller) if traveller.player() == player && traveller.is_current() => {
+            Some(traveller)
+        }
         _ => None,
     }
 }
 
-/// Has a known traveller follow a change. `world` is the world after the change. The traveller is forgotten if the
-/// change may open or close something.
+/// Has a known traveller follow a change. `world` is the world after the change. The traveller is forgotten after a
+/// recycling, or if an allocation fails.
 pub(crate) fn follow_change(traveller: &mut Option<Traveller>, world: &World, change: &Change)
-    ensures { (was : State) → IsSound was → IfSome traveller.old (IsTraveller was)
-        → world.now ≡ step_or_same was change.now → IfSome traveller.new (IsTraveller world.now) }
+    ensures { (was : State) → IsSound was → IfSome traveller.old (IsFollower was)
+        → world.now ≡ step_or_same was change.now → IfSome traveller.new (IsFollower world.now) }
 {
-    if !keeps_roads(change) {
+    let follows = match traveller {
+        Some(known) if keeps_exits(change) => known.follow(world, change).is_ok(),
+        _ => false,
+    };
+    if !follows {
         *traveller = None;
-        return;
-    }
-    if let Some(known) = traveller {
-        known.follow(world);
     }
 }
 
-// Returns whether a change keeps all roads: talk and walks do.
-fn keeps_roads(change: &Change) -> bool
-    ensures { result ≡ keeps_roads change.now.deed }
+// Returns whether a change is not a recycling.
+fn keeps_exits(change: &Change) -> bool
+    ensures { result ≡ keeps_exits change.now.deed }
 {
-    matches!(
-        &change.deed,
-        Deed::Say(_) | Deed::Emote(_) | Deed::Walk { .. }
-    )
+    !matches!(&change.deed, Deed::Recycle { .. })
 }
 
 // Returns whether a line asks for a route, or for the proof of one.

@@ -2,7 +2,8 @@
 
 ghost use Rattle.std.specs.Prelude.{◌≡◌, ◌≤◌, IfSome, true, false};
 
-use crate::journal::{LastReceipt, Receipt};
+use crate::journal::{Receipt, Synced};
+use crossbeam_utils::atomic::AtomicCell;
 use crossbeam_utils::sync::EventCount;
 use std::sync::Wait;
 use std::sync::atomic::{AtomicBool, AtomicUsize, Ordering};
@@ -15,7 +16,7 @@ pub struct Gate<J> {
     // The greatest version that was requested to be synced.
     wanted: AtomicUsize,
     // The receipt of the last sync, or for no entries without a journal.
-    synced: LastReceipt<J>,
+    synced: AtomicCell<Synced<J>>,
     // True once the journal accepts no more.
     has_failed: AtomicBool,
     // True once no more will be requested.
@@ -33,7 +34,7 @@ fn gate_at<J>(synced: &Receipt<J>, is_open: bool) -> Gate<J>
 {
     Gate {
         wanted: AtomicUsize::new(synced.up_to()),
-        synced: LastReceipt::new(synced),
+        synced: AtomicCell::new(Synced::of_receipt(synced)),
         has_failed: AtomicBool::new(false),
         is_closed: AtomicBool::new(false),
         is_open,
@@ -69,7 +70,7 @@ impl<J> Gate<J> {
         if self.is_open {
             usize::MAX
         } else {
-            self.synced.get().up_to()
+            self.synced.load().receipt().up_to()
         }
     }
 
@@ -82,14 +83,14 @@ impl<J> Gate<J> {
         if self.is_open {
             return Some(Receipt::free());
         }
-        let last = self.synced.get();
+        let last = self.synced.load().receipt();
         if version <= last.up_to() {
             return Some(last);
         }
         self.want(rt, version);
         for _ in rt.forever() {
             let key = self.done.prepare_wait();
-            let receipt = self.synced.get();
+            let receipt = self.synced.load().receipt();
             if version <= receipt.up_to() {
                 return Some(receipt);
             }
@@ -125,7 +126,7 @@ impl<J> Gate<J> {
     pub fn next<R: Wait>(&self, rt: &R) -> bool {
         for _ in rt.forever() {
             let key = self.work.prepare_wait();
-            if self.synced.get().up_to() < self.wanted.load(Ordering::SeqCst) {
+            if self.synced.load().receipt().up_to() < self.wanted.load(Ordering::SeqCst) {
                 return true;
             }
             if self.is_closed.load(Ordering::SeqCst) {
@@ -139,7 +140,9 @@ impl<J> Gate<J> {
     /// Releases the threads that wait for entries which are synced now. A free receipt carries no information, and
     /// releases no thread. Only the thread that writes the journal calls it.
     pub fn publish(&self, receipt: &Receipt<J>) {
-        self.synced.put(receipt);
+        if self.synced.load().receipt().up_to() < receipt.of_journal().up_to() {
+            self.synced.store(Synced::of_receipt(receipt));
+        }
         self.done.notify_all();
     }
 

@@ -11,11 +11,11 @@ ghost use Rattle.mud_journal.specs.OpenFaults.{IsBeginFault};
 
 use crate::disk::{Appends, Disk};
 use crate::fault::{JournalFault, OpenFault};
+use crossbeam_utils::atomic::Word;
 use mud_chron::{Entry, write_entry};
 use mud_world::limits::MOST_ENTRIES;
 use std::alloc::{AllocError, Global};
 use std::marker::PhantomData;
-use std::sync::atomic::{AtomicUsize, Ordering};
 
 /// The name of a journal that has no name yet.
 pub struct Nameless;
@@ -65,7 +65,9 @@ impl<J> Receipt<J> {
 
     // Returns a copy, or the receipt for no entries if it is free.
     pub(crate) fn of_journal(&self) -> Receipt<J>
-        ensures { result.is_free ≡ false }
+        ensures of_journal { result.is_free ≡ false }
+        ensures copy { self.now.is_free ≡ false → result ≡ self.now }
+        ensures nothing { self.now.is_free ≡ true → result.up_to ≡ 0 }
     {
         if self.is_free {
             Receipt::of_nothing()
@@ -82,36 +84,54 @@ impl<J> Receipt<J> {
     }
 }
 
-/// The greatest receipt of a journal, which many threads read without a lock. It is never free.
-#[derive(Drop)]
-pub(crate) struct LastReceipt<J> {
-    up_to: AtomicUsize,
+/// The receipt of the last sync of a journal, or of nothing, which an atomic cell holds. It is never free. The cell
+/// gives back only what was stored in it: the contract of `from_word` says so.
+pub(crate) struct Synced<J> {
+    up_to: usize,
     of: PhantomData<J>,
 }
 
-impl<J> LastReceipt<J> {
-    // Begins with this receipt, or with the one for no entries if it is free.
-    pub(crate) fn new(receipt: &Receipt<J>) -> LastReceipt<J> {
-        LastReceipt {
-            up_to: AtomicUsize::new(receipt.of_journal().up_to),
+impl<J> Copy for Synced<J> {}
+
+impl<J> Clone for Synced<J> {
+    fn clone(&self) -> Result<Synced<J>, AllocError> {
+        Ok(*self)
+    }
+}
+
+impl<J> Word for Synced<J> {
+    ghost word = { λ s. s.up_to };
+
+    fn to_word(self) -> u64 {
+        self.up_to as u64
+    }
+
+    fn from_word(bits: u64) -> Synced<J> {
+        Synced {
+            up_to: bits as usize,
+            of: PhantomData,
+        }
+    }
+}
+
+impl<J> Synced<J> {
+    // Returns what this receipt is for, or nothing if it is free.
+    pub(crate) fn of_receipt(receipt: &Receipt<J>) -> Synced<J>
+        ensures copy { receipt.now.is_free ≡ false → result.up_to ≡ receipt.now.up_to }
+        ensures nothing { receipt.now.is_free ≡ true → result.up_to ≡ 0 }
+    {
+        Synced {
+            up_to: receipt.of_journal().up_to,
             of: PhantomData,
         }
     }
 
-    // Takes a greater receipt, and no free one. Only the thread that writes the journal calls it.
-    pub(crate) fn put(&self, receipt: &Receipt<J>) {
-        let up_to = receipt.of_journal().up_to;
-        if self.up_to.load(Ordering::SeqCst) < up_to {
-            self.up_to.store(up_to, Ordering::SeqCst);
-        }
-    }
-
     // Returns the receipt.
-    pub(crate) fn get(&self) -> Receipt<J>
-        ensures { result.is_free ≡ false }
+    pub(crate) fn receipt(self) -> Receipt<J>
+        ensures { (result.up_to ≡ self.up_to) × (result.is_free ≡ false) }
     {
         Receipt {
-            up_to: self.up_to.load(Ordering::SeqCst),
+            up_to: self.up_to,
             is_free: false,
             of: PhantomData,
         }

@@ -13,18 +13,13 @@ use Rattle.mud_world.specs.declared.record.Kind.{Kind}
 use Rattle.mud_world.specs.declared.record.Kind.TheVariants.{Room, Exit, Thing, Player}
 use Rattle.mud_world.specs.State.{State, record_at, exists, key_of}
 use Rattle.mud_world.specs.Sound.{IsSound}
+use Rattle.mud_world.proofs.Named.{all-implied}
 use Rattle.mud_world.proofs.Records.{in_bounds, record_cases}
 use Rattle.mud_renumber.specs.Numbers.{number_at}
 use Rattle.mud_renumber.specs.inner.Checked.{IsRisen}
 use Rattle.mud_renumber.specs.Renumbered.{key_under, kind_under, record_under, IsRenumbered}
 
 -- what holds of each number holds of those of a key
-all_implied : (P Q : ℕ → Type 0) → ((n : ℕ) → P n → Q n) → (key : Tree ℕ) → AllObjects P key → AllObjects Q key
-all_implied P Q more (Has n) all = more n all
-all_implied P Q more (Asks n) all = more n all
-all_implied P Q more (Not k) all = all_implied P Q more k all
-all_implied P Q more (Join op a b) all = (all_implied P Q more a all.0, all_implied P Q more b all.1)
-
 all_of : (P : ℕ → Type 0) → ((n : ℕ) → P n) → (key : Tree ℕ) → AllObjects P key
 all_of P each (Has n) = each n
 all_of P each (Asks n) = each n
@@ -135,7 +130,7 @@ given_key : (f : ℕ → ℕ) (next high : ℕ) (key : Option (Tree ℕ)) → If
     → IfSome key (AllObjects (λ o. o < high → f o < next))
 given_key f next high None all = tt
 given_key f next high (Some k) all =
-    all_implied (λ o. f o < next) (λ o. o < high → f o < next) (λ n less was. less) k all
+    all-implied (λ o. f o < next) (λ o. o < high → f o < next) (λ n less was. less) k all
 
 pub renumbered : (numbers : List ℕ) (w u : State) → IsSound w → IsSound u → length numbers ≡ w.next → u.next ≤ w.next
     → ((n : ℕ) → n < w.next → record_at u (number_at numbers n)

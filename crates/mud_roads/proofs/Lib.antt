@@ -3,7 +3,10 @@ pub mod Routes
 pub mod Rows
 pub mod Roads
 pub mod Opened
+pub mod Unmoved
 pub mod Walking
+pub mod Recosting
+pub mod Enlarging
 pub mod Following
 pub mod Single
 pub mod Alike

@@ -211,15 +211,26 @@ steps-inside w sound p room s c =
     (room-below w sound s.to well.1, well.2)
 
 -- no exit leaves a number that was never given
-pub no-roads-past : (w : State) → IsSound w → (p room : ℕ) → w.next ≤ room → roads_of w p room ≡ []
-no-roads-past w sound p room past = go (roads_of w p room) refl
+pub no-exits-past : (w : State) → IsSound w → (room : ℕ) → w.next ≤ room → leaving_of w room ≡ []
+no-exits-past w sound room past = go (leaving_of w room) refl
   where
-    go : (ss : List Step) → roads_of w p room ≡ ss → roads_of w p room ≡ []
+    go : (ns : List ℕ) → leaving_of w room ≡ ns → leaving_of w room ≡ []
     go [] e = e
-    go (s ∷ ss) e =
-        let first : Contains (s ∷ ss) s = (0, omega arith, refl) in
-        let c : Contains (roads_of w p room) s = subst (λ (l : List Step). Contains l s) (sym e) first in
-        absurd (let below = room-below w sound room (steps-rooms w sound p room s c).0 in omega (arith, below))
+    go (n ∷ ns) e =
+        let among : list_any (nat_eq n) (leaving_of w room) ≡ true =
+        ap (list_any (nat_eq n)) e ∙ or_left (nat_eq n n) (list_any (nat_eq n) ns) (eq-eqb n n refl) in
+        let from : source_of w n ≡ Some room = ((leaving_law w sound room).0 n).0 among in
+        passage_cases (passage_of w n)
+        (λ none. let bad : None ≡ Some room = sym (ap (option_map (λ a. a.source)) none) ∙ from in absurd (cc))
+        (λ a is.
+        let same : Some a.source ≡ Some room = sym (ap (option_map (λ a. a.source)) is) ∙ from in
+        let here : a.source ≡ room = cc in
+        let below = room-below w sound a.source (passage-well w sound n a is).0 in
+        absurd (omega (arith, below, here, past)))
+
+pub no-roads-past : (w : State) → IsSound w → (p room : ℕ) → w.next ≤ room → roads_of w p room ≡ []
+unfolding roads_of
+no-roads-past w sound p room past = ap (filter_map (open_step w p)) (no-exits-past w sound room past)
 
 -- a player is in a room
 pub player-place : (w : State) → IsSound w → (p place : ℕ) → IsTrue (is_player w p)

@@ -1,7 +1,7 @@
 -- A walk leaves what is open to each player as it is, so the rest of a walk stays open.
 use Rattle.std.proofs.Common.{◌≡◌, ◌≢◌, ℕ, zero, suc, Bool, true, false, ◌&&◌, ◌||◌, cond, [], ◌∷◌, Option, Some, None}
 use Rattle.std.proofs.Common.{refl, sym, ◌∙◌, ap, subst, ⊎_elim}
-use Rattle.std.specs.Prelude.{nat_eq, is_some, is_none, IsTrue, List}
+use Rattle.std.specs.Prelude.{nat_eq, is_some, IsTrue, List}
 use Rattle.std.specs.Option.{option_map, option_map_or, option_and_then}
 use Rattle.std.specs.List.{filter_map}
 use Rattle.std.proofs.lemmas.Bool.{cases_eq, eq-eqb, ne_eqb, and_parts, not_from_true, or_from, true≢false}
@@ -13,17 +13,15 @@ use Rattle.mud_world.specs.declared.change.Change.{Change}
 use Rattle.mud_world.specs.declared.change.Deed.TheVariants.{Walk as WalkDeed}
 use Rattle.mud_world.specs.declared.refusal.Refusal.{Refusal}
 use Rattle.mud_world.specs.declared.refusal.Refusal.TheVariants.{NoSuch, WrongKind, NotHere, LockedExit, LockedRoom}
-use Rattle.mud_world.specs.Truth.{key_true}
 use Rattle.mud_world.specs.Kinds.{kind_at, kind_place, kind_passage, is_player_kind, is_exit_kind, is_room_kind}
 use Rattle.mud_world.specs.State.{State, record_at, exists, has, is_exit, is_room, is_number, is_player, place_of}
 use Rattle.mud_world.specs.State.{comes_to}
-use Rattle.mud_world.specs.State.{within, passage_of, destination_of, leaving_of, unlocked_in, unlocked}
+use Rattle.mud_world.specs.State.{passage_of, destination_of, leaving_of, unlocked}
 use Rattle.mud_world.specs.Sound.{IsSound}
 use Rattle.mud_world.specs.Legal.{fails, refusal, after as world_after}
 use Rattle.mud_world.specs.inner.Fields.{with_record, with_place, leaves_from}
 use Rattle.mud_world.proofs.KindLemmas.{same_passage, same_player, same_room}
-use Rattle.mud_world.proofs.Records.{record_cases, lookup-set_value_same, lookup-set_value_other}
-use Rattle.mud_world.proofs.Numbering.{passing-keep}
+use Rattle.mud_world.proofs.Records.{record_cases}
 use Rattle.mud_world.proofs.Going.{moved_by}
 use Rattle.mud_world.proofs.Least.{refusals_law}
 use Rattle.mud_world.proofs.Sounding.{soundness_law}
@@ -33,6 +31,7 @@ use Rattle.mud_roads.specs.Passable.{passable, roads_of}
 use Rattle.mud_roads.specs.Passable.{open_step}
 use Rattle.mud_roads.specs.Laws.{IsRoad, IsWalked}
 use Rattle.mud_roads.proofs.Roads.{road-at}
+use Rattle.mud_roads.proofs.Unmoved as unmoved
 
 -- ---- a room
 -- following places from a room comes to no player
@@ -67,28 +66,23 @@ module _ (w : State) (q y : ℕ) (r : Record) (at : record_at w q ≡ Some r) wh
   w' = with_record w q r'
 
   here : record_at w' q ≡ Some r'
-  here = lookup-set_value_same q r' r w.objects at
+  here = unmoved.here w q r r' at
 
   there : (n : ℕ) → n ≢ q → record_at w' n ≡ record_at w n
-  there n apart = lookup-set_value_other q n apart r' w.objects
+  there n apart = unmoved.there w q r r' at n apart
 
   -- the facts about a record, except its place, do not change
   kept : {X : Type 0} (f : Option Record → X) → f (Some r') ≡ f (Some r) → (n : ℕ)
       → f (record_at w' n) ≡ f (record_at w n)
-  kept f same n =
-      ⊎_elim
-      (λ (e : n ≡ q). ap (λ m. f (record_at w' m)) e ∙ ap f here ∙ same ∙ sym (ap f at)
-      ∙ sym (ap (λ m. f (record_at w m)) e))
-      (λ apart. ap f (there n apart))
-      (cases_eq n q)
+  kept f same n = unmoved.kept w q r r' at f same n
 
   kept_passage : (n : ℕ) → passage_of w' n ≡ passage_of w n
   kept_passage n = kept (λ v. option_and_then (λ r. kind_passage r.kind) v) (same_passage y r.kind) n
 
   kept_leaving : (n : ℕ) → leaving_of w' n ≡ leaving_of w n
   kept_leaving n =
-      passing-keep (λ r. is_number n (option_map (λ p. p.source) (kind_passage r.kind))) q r' r w.objects at
-      (ap (λ v. is_number n (option_map (λ p. p.source) v)) (same_passage y r.kind))
+      unmoved.kept-leaving w q r r' at
+      (ap (option_map (λ p. p.source)) (same_passage y r.kind)) n
 
   pub kept-player : (p : ℕ) → is_player w' p ≡ is_player w p
   kept-player p = kept (λ v. option_map_or (λ r. is_player_kind r.kind) v false) (same_player y r.kind) p
@@ -150,24 +144,8 @@ module _ (w : State) (q y : ℕ) (r : Record) (at : record_at w q ≡ Some r) wh
 
   -- ---- then what is open to p does not change, if following places to p does not
   module _ (p : ℕ) (comes : (n o : ℕ) → comes_to w' n o p ≡ comes_to w n o p) where
-    kept_within : ◌≡◌ {A = ℕ → Bool} (λ o. within w' o p) (λ o. within w o p)
-    kept_within = λ i o.
-        (ap (λ b. b && comes_to w' w.next o p) (kept is_some refl o) ∙ ap (λ b. exists w o && b) (comes w.next o)) i
-
-    kept_unlocked_in : (n o : ℕ) → unlocked_in w' n (λ a. within w' a p) o ≡ unlocked_in w n (λ a. within w a p) o
-    kept_unlocked_in zero o = kept (λ v. option_map_or (λ r. is_none r.key) v false) refl o
-    kept_unlocked_in (suc n) o =
-        let again : unlocked_in w' n (λ a. within w' a p) ≡ unlocked_in w n (λ a. within w a p) =
-        λ i o. (kept_unlocked_in n o) i in
-        let held : ℕ → Bool = λ a. within w a p in
-        ap (λ (f : ℕ → Bool). has w' o (λ r. option_map_or (key_true (λ a. within w' a p) f) r.key true)) again
-        ∙ ap (λ (f : ℕ → Bool). has w' o (λ r. option_map_or (key_true f (unlocked_in w n held)) r.key true))
-        kept_within
-        ∙ kept (λ v. option_map_or
-        (λ r. option_map_or (key_true held (unlocked_in w n held)) r.key true) v false) refl o
-
     pub kept-unlocked : (n : ℕ) → unlocked w' p n ≡ unlocked w p n
-    kept-unlocked n = kept_unlocked_in 4 n
+    kept-unlocked n = unmoved.kept-unlocked w q r r' at refl p comes n
 
     kept_passable : (n : ℕ) → passable w' p n ≡ passable w p n
     kept_passable n =

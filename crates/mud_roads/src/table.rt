@@ -1,9 +1,11 @@
 //! Steps by room.
 
-ghost use Rattle.std.specs.Prelude.{◌≡◌, ◌-◌, ◌<◌, ◌≤◌, [], ◌∷◌, length, take, drop, slice_index_or};
-ghost use Rattle.mud_roads.specs.inner.Tables.{rows, Fit};
+ghost use Rattle.std.specs.Prelude.{◌≡◌, suc, ◌-◌, ◌^◌, ◌<◌, ◌≤◌, [], ◌∷◌, ◌++◌, length, take, drop, map};
+ghost use Rattle.std.specs.Prelude.{slice_index_or, slice_set, replicate, All, OnOk, OnErr};
+ghost use Rattle.mud_roads.specs.inner.Tables.{rows, Fit, costing};
 
 use crate::Step;
+use std::alloc::AllocError;
 use std::marker::Model;
 
 // A row of steps for each room, sorted by number. A contract sees the rows.
@@ -49,6 +51,53 @@ impl Table {
             &[]
         }
     }
+
+    // Returns the number of rows.
+    pub(crate) fn count(&self) -> usize
+        ensures { result ≡ length self.now }
+    {
+        self.ends.len()
+    }
+
+    // Appends this many empty rows. If an allocation fails, some of them are there.
+    pub(crate) fn grow_by(&mut self, count: usize) -> Result<(), AllocError>
+        ensures { OnOk result (self.new ≡ self.old ++ replicate count []) }
+    {
+        for _ in 0..count {
+            self.grow()?;
+        }
+        Ok(())
+    }
+
+    // Appends an empty row. If the allocation fails, the table stays as it was.
+    pub(crate) fn grow(&mut self) -> Result<(), AllocError>
+        ensures ok { OnOk result (self.new ≡ self.old ++ ([] ∷ [])) }
+        ensures err { OnErr result (self.new ≡ self.old) }
+    {
+        self.ends.push(self.steps.len())?;
+        Ok(())
+    }
+
+    // Appends a step to the row of a number. If the allocation fails, the table stays as it was.
+    pub(crate) fn add(&mut self, room: u32, step: Step) -> Result<(), AllocError>
+        requires { room < length self.old }
+        ensures ok { OnOk result (self.new ≡ slice_set self.old room (slice_index_or self.old room [] ++ (step ∷ []))) }
+        ensures err { OnErr result (self.new ≡ self.old) }
+    {
+        let row = room as usize;
+        let end = self.ends[row];
+        // Only the insertion can fail, so it comes first.
+        self.steps.insert(end, step)?;
+        raise_from(&mut self.ends, row);
+        Ok(())
+    }
+
+    // Gives the steps of an exit this cost.
+    pub(crate) fn set_cost(&mut self, exit: u32, cost: u32)
+        ensures { self.new ≡ map (map (costing exit cost)) self.old }
+    {
+        set_costs(&mut self.steps, exit, cost);
+    }
 }
 
 // Returns the index at which a row begins: the end of the row before it.
@@ -66,4 +115,34 @@ fn part(steps: &[Step], begin: usize, end: usize) -> &[Step]
     ensures { result.now ≡ take (end - begin) (drop begin steps.now) }
 {
     &steps[begin..end]
+}
+
+// Adds 1 to the end of each row from this one on.
+fn raise_from(ends: &mut [usize], row: usize)
+    requires within { row ≤ length ends.old }
+    requires bounded { All (λ end. end < 2 ^ 63) ends.old }
+    ensures { ends.new ≡ take row ends.old ++ map suc (drop row ends.old) }
+{
+    raise(&mut ends[row..]);
+}
+
+// Adds 1 to each end.
+fn raise(ends: &mut [usize])
+    requires { All (λ end. end < 2 ^ 63) ends.old }
+    ensures { ends.new ≡ map suc ends.old }
+{
+    for end in ends.iter_mut() {
+        *end += 1;
+    }
+}
+
+// Gives the steps of an exit this cost.
+fn set_costs(steps: &mut [Step], exit: u32, cost: u32)
+    ensures { steps.new ≡ map (costing exit cost) steps.old }
+{
+    for step in steps.iter_mut() {
+        if step.exit == exit {
+            step.cost = cost;
+        }
+    }
 }

@@ -1,26 +1,30 @@
 //! Travellers.
 
-ghost use Rattle.std.specs.Prelude.{◌≡◌, IfOk, IsTrue};
+ghost use Rattle.std.specs.Prelude.{◌≡◌, ◌&&◌, IfOk, OnOk, OnErr, IsTrue};
 ghost use Rattle.mud_world.specs.State.{State, is_player, place_of};
 ghost use Rattle.mud_world.specs.Sound.{IsSound};
-ghost use Rattle.mud_world.specs.declared.change.Change.{Change};
 ghost use Rattle.mud_world.specs.History.{step_or_same};
-ghost use Rattle.mud_roads.specs.Passable.{passable, open_step, roads_of, known_roads, keeps_roads, moved_to};
-ghost use Rattle.mud_roads.specs.Passable.{IsTraveller};
+ghost use Rattle.mud_roads.specs.Passable.{passable, open_step, roads_of, known_roads, keeps_locks};
+ghost use Rattle.mud_roads.specs.Passable.{keeps_exits, IsTraveller, IsFollower};
+ghost use Rattle.mud_roads.specs.inner.Growing.{heeding, moved_to, recosted, IsGrown};
 
 use crate::Step;
 use crate::access::Access;
 use crate::table::Table;
-use mud_world::World;
+use mud_world::{Change, Deed, World};
 use std::alloc::{AllocError, Global};
 use std::marker::Model;
 
-/// A player of a world, with its place and everything that is open to it. A traveller is a snapshot of one world; of
-/// later changes it follows talk and walks. Making one evaluates each key of the world once, and each exit once.
+/// A player of a world, with its place and everything that is open to it. A traveller is a snapshot of one world, and
+/// follows each later change except a recycling. After a change that may open or close something that was there, it is
+/// no longer current, until it is refreshed. Making one evaluates each key of the world once, and each exit once.
+/// Following a change evaluates new objects only. Refreshing one evaluates the keys, and the exits only if something
+/// was opened or closed.
 #[derive(Drop)]
 pub struct Traveller {
     access: Access,
     place: u32,
+    is_current: bool,
     roads: Table,
 }
 
@@ -31,7 +35,17 @@ impl Model for Traveller {
 
     ghost coded = { knowledge_code };
 
-    ghost view = { λ t. knowledge_of t.access.player t.place t.access.marks.items t.roads };
+    ghost view = { λ t. knowledge_of t.access.player t.place t.is_current t.access.marks.items t.roads };
+}
+
+// Returns whether a change opens and closes nothing that was there.
+fn keeps_locks(change: &Change) -> bool
+    ensures { result ≡ keeps_locks change.now.deed }
+{
+    !matches!(
+        &change.deed,
+        Deed::Lock { .. } | Deed::Unlock { .. } | Deed::Move { .. } | Deed::Recycle { .. }
+    )
 }
 
 impl Traveller {
@@ -40,6 +54,7 @@ impl Traveller {
         requires { IsTrue (is_player world.now player) }
         ensures traveller { IfOk result (IsTraveller world.now) }
         ensures player { IfOk result (λ t. t.player ≡ player) }
+        ensures current { IfOk result (λ t. IsTrue t.current) }
     {
         let access = Access::of(alloc, world, player)?;
         let roads = access.roads(alloc, world)?;
@@ -47,6 +62,7 @@ impl Traveller {
             Some(place) => Ok(Traveller {
                 access,
                 place,
+                is_current: true,
                 roads,
             }),
             None => unreachable!(),
@@ -60,16 +76,85 @@ impl Traveller {
         self.access.player
     }
 
-    /// Follows a change that keeps all roads: talk, or a walk of any player. Only its place can be another one then.
-    /// `world` is the world after the change.
-    pub fn follow(&mut self, world: &World)
-        ensures moved { self.new ≡ moved_to self.old (place_of world.now self.old.player) }
-        ensures traveller { (was : State) (e : Change) → IsSound was → IsTraveller was self.old
-            → IsTrue (keeps_roads e.deed) → world.now ≡ step_or_same was e → IsTraveller world.now self.new }
+    /// Returns whether no change that the traveller followed may have opened or closed something.
+    pub fn is_current(&self) -> bool
+        ensures { result ≡ self.now.current }
+    {
+        self.is_current
+    }
+
+    /// Follows a change that is not a recycling. `world` is the world after the change. The only error is out of
+    /// memory; then nothing is known of the traveller but its player.
+    pub fn follow(&mut self, world: &World, change: &Change) -> Result<(), AllocError>
+        ensures player { self.new.player ≡ self.old.player }
+        ensures current { OnOk result (self.new.current ≡ (self.old.current && keeps_locks change.now.deed)) }
+        ensures follower { (was : State) → IsSound was → IsFollower was self.old
+            → IsTrue (keeps_exits change.now.deed) → world.now ≡ step_or_same was change.now
+            → OnOk result (IsFollower world.now self.new) }
+    {
+        self.heed(change);
+        self.move_along(world);
+        self.take_cost(world, change);
+        self.grow(world)
+    }
+
+    /// Makes the traveller current. It looks at each exit again only if something was opened or closed. The only error
+    /// is out of memory; the traveller stays as it was then.
+    pub fn refresh(&mut self, alloc: Global, world: &World) -> Result<(), AllocError>
+        ensures player { self.new.player ≡ self.old.player }
+        ensures current { OnOk result (IsTrue self.new.current) }
+        ensures traveller { IsFollower world.now self.old → OnOk result (IsTraveller world.now self.new) }
+        ensures err { OnErr result (self.new ≡ self.old) }
+    {
+        if self.is_current {
+            return Ok(());
+        }
+        let access = Access::of(alloc, world, self.access.player)?;
+        if !self.access.has_marks_of(&access) {
+            self.roads = access.roads(alloc, world)?;
+        }
+        self.access = access;
+        self.is_current = true;
+        Ok(())
+    }
+
+    // Notes whether a change may open or close something.
+    fn heed(&mut self, change: &Change)
+        ensures { self.new ≡ heeding change.now.deed self.old }
+    {
+        self.is_current = self.is_current && keeps_locks(change);
+    }
+
+    // Follows the player to its place.
+    fn move_along(&mut self, world: &World)
+        ensures { self.new ≡ moved_to self.old (place_of world.now self.old.player) }
     {
         if let Some(place) = world.place(self.access.player) {
             self.place = place;
         }
+    }
+
+    // Takes over the cost of an exit, if the change sets one.
+    fn take_cost(&mut self, world: &World, change: &Change)
+        ensures { self.new ≡ recosted world.now change.now.deed self.old }
+    {
+        if let Deed::Cost { exit, .. } = &change.deed {
+            if let Some(passage) = world.passage(*exit) {
+                self.roads.set_cost(*exit, passage.cost);
+            }
+        }
+    }
+
+    // Learns of the objects that the world has beyond the marked ones. An error leaves the player as it was.
+    fn grow(&mut self, world: &World) -> Result<(), AllocError>
+        ensures player { self.new.player ≡ self.old.player }
+        ensures grown { OnOk result (IsGrown world.now self.old self.new) }
+    {
+        let known = self.access.count();
+        self.access.grow(world)?;
+        self.roads
+            .grow_by((world.next_number() as usize).saturating_sub(known))?;
+        self.access.add_exits(world, known, &mut self.roads)
     }
 
     /// Returns the room where the traveller stands.

@@ -1,12 +1,13 @@
 -- A world stays sound when objects are added.
-use Rattle.std.proofs.Common.{◌≡◌, ℕ, zero, suc, ◌+◌, ◌≤◌, Bool, true, false, cond, List, [], ◌∷◌, ◌++◌, length, Some}
+use Rattle.std.proofs.Common.{◌≡◌, ℕ, zero, suc, ◌+◌, ◌<◌, ◌≤◌, Bool, true, false, cond, List, [], ◌∷◌, ◌++◌, length}
+use Rattle.std.proofs.Common.{Some}
 use Rattle.std.proofs.Common.{None, refl, sym, ◌∙◌, ap, subst, arith}
 use Rattle.std.specs.Prelude.{nat_eq, is_some, IfSome}
 use Rattle.std.specs.Option.{option_map_or, option_and_then}
 use Rattle.std.specs.List.{enumerate_from, list_all}
 use Rattle.std.specs.Map.{lookup}
 use Rattle.std.proofs.lemmas.Bool.{and_from, and_parts, true≢false, ne_eqb}
-use Rattle.mud_key.specs.Tree.{IsKey}
+use Rattle.mud_key.specs.Tree.{IsKey, AllObjects}
 use Rattle.mud_world.specs.declared.limits.TheConstants.{NUMBERS}
 use Rattle.mud_world.specs.declared.record.Record.{Record}
 use Rattle.mud_world.specs.declared.record.Kind.{Kind}
@@ -17,6 +18,7 @@ use Rattle.mud_world.specs.Sound.{IsSound, IsRising, IsPlacedWell}
 use Rattle.mud_world.specs.inner.Fields.{AreNamedApart}
 use Rattle.mud_world.specs.Legal.{with_new}
 use Rattle.mud_world.specs.inner.CanGo.{IsNew}
+use Rattle.mud_world.proofs.Named.{some-implied}
 use Rattle.mud_world.proofs.Records.{record_cases, in_bounds, lookup-append_left, lookup-append_right}
 use Rattle.mud_world.proofs.Records.{option_map_or-agree_keys, list_all-agree}
 use Rattle.mud_world.proofs.Places.{option_cases, follow_by, no_circle-from_end, ends_by-bound}
@@ -32,7 +34,7 @@ IsRising-append low mid high [] fs first second = weaker fs first second
 IsRising-append low mid high (e ∷ es) fs first second =
     (first.0, IsRising-append (e.0 + 1) mid high es fs first.1 second)
 
-IsRising-numbered : (n : ℕ) (rs : List Record) → IsRising n (enumerate_from n rs) (n + length rs)
+pub IsRising-numbered : (n : ℕ) (rs : List Record) → IsRising n (enumerate_from n rs) (n + length rs)
 IsRising-numbered n [] = omega arith
 IsRising-numbered n (r ∷ rs) = (
   omega arith,
@@ -187,6 +189,10 @@ module _ (w : State) (sound : IsSound w) (rs : List Record) (room : w.next + len
       keyless = λ n r at. either_at n r at (λ old. sound.keyless n r old) (λ gone is place e. is.keyless);
       locked = λ n r at. either_at n r at (λ old. sound.locked n r old)
           (λ gone is. subst (λ k. IfSome k IsKey) (sym is.keyless) tt);
+      made = λ n r at. either_at n r at
+          (λ old. some-implied (λ o. o < w.next) (λ o. o < w.next + length rs) (λ o lt. omega (arith, lt)) r.key
+          (sound.made n r old))
+          (λ gone is. subst (λ k. IfSome k (AllObjects (λ o. o < w.next + length rs))) (sym is.keyless) tt);
       nesting =
           list_all-append _ w.objects (enumerate_from w.next rs)
           (list_all-agree _ _ (λ e. option_map_or-agree_keys w w' same_key 3 e.1.key) w.objects ∙ sound.nesting)

@@ -9,7 +9,7 @@ use Rattle.mud_world.specs.declared.record.Kind.TheVariants.{Room, Exit, Thing, 
 use Rattle.mud_world.specs.Kinds.{kind_place, is_room_kind, is_exit_kind}
 use Rattle.mud_world.specs.State.{State, record_at, place_of, follow, all_nest}
 use Rattle.mud_world.specs.Sound.{IsPlacedWell, IsSound}
-use Rattle.mud_world.specs.inner.Fields.{IsKeyless, IsLockedWell, AreNamedApart, with_record}
+use Rattle.mud_world.specs.inner.Fields.{IsKeyless, IsLockedWell, IsLockedBelow, AreNamedApart, with_record}
 use Rattle.mud_world.proofs.Places.{option_cases, follow_by, no_circle-from_end}
 use Rattle.mud_world.proofs.Records.{lookup-set_value_same, lookup-set_value_other, IsRising-set_value}
 use Rattle.mud_world.proofs.Moving.{ends_before}
@@ -22,6 +22,7 @@ pub record IsLike (w : State) (r r' : Record) : Type 0 where
   pub well : IsPlacedWell w r'.kind
   pub keyless : IsKeyless r'
   pub locked : IsLockedWell r'
+  pub made : IsLockedBelow w.next r'
 
 module _ (w : State) (sound : IsSound w) (n : ℕ) (r r' : Record) (at : record_at w n ≡ Some r)
     (like : IsLike w r r') where
@@ -92,6 +93,7 @@ module _ (w : State) (sound : IsSound w) (n : ℕ) (r r' : Record) (at : record_
         no_circle-from_end w' first.0 m k (follow_kept first.0 m first.1);
     keyless = each-kept IsKeyless like.keyless sound.keyless;
     locked = each-kept IsLockedWell like.locked sound.locked;
+    made = each-kept (IsLockedBelow w.next) like.made sound.made;
     nesting = nesting;
     named = named;
     hall = answer-kept (λ v. option_map_or (λ r. is_room_kind r.kind) v false) like.room 0 ∙ sound.hall;

@@ -1,5 +1,6 @@
 -- A world stays sound when an object gets a key, or loses it.
-use Rattle.std.proofs.Common.{◌≡◌, ℕ, ◌≤◌, Bool, true, false, not, ◌||◌, List, [], ◌∷◌, ◌++◌, Option, Some, None, refl}
+use Rattle.std.proofs.Common.{◌≡◌, ℕ, ◌<◌, ◌≤◌, Bool, true, false, not, ◌||◌, List, [], ◌∷◌, ◌++◌, Option, Some, None}
+use Rattle.std.proofs.Common.{refl}
 use Rattle.std.proofs.Common.{sym, ◌∙◌, ap, subst, arith, ⊎_elim, inl, inr}
 use Rattle.std.specs.Prelude.{nat_eq, nat_lt, is_some, IsTrue}
 use Rattle.std.specs.Option.{option_map_or, option_and_then}
@@ -20,6 +21,7 @@ use Rattle.mud_world.proofs.Records.{record_cases, bool_cases, in_bounds, lookup
 use Rattle.mud_world.proofs.Numbering.{set_here, set_past}
 use Rattle.mud_world.proofs.Editing.{changed_by}
 use Rattle.mud_world.proofs.Changing.{IsLike, sound-changed}
+use Rattle.mud_world.proofs.Named.{all-implied}
 use Rattle.mud_world.proofs.Naming.{named-same}
 use Rattle.mud_world.proofs.Removing.{Fewer, all_nest-fewer}
 use Rattle.mud_world.proofs.Going.{nothing_fails}
@@ -50,6 +52,7 @@ sound-keyed w sound n key can =
           (sym (ap is_player_kind e) ∙ sym (ap (λ v. option_map_or (λ r. is_player_kind r.kind) v false) it.1)
           ∙ can.no_player));
       locked = can.limits;
+      made = can.made;
     } in
     subst IsSound (sym is)
     (sound-changed w sound n r (with_this_key key r) it.1 like
@@ -93,6 +96,7 @@ CanKey-unlock w sound a n legal =
       there = there;
       no_player = (or_parts _ _ none_holds.1.0).1;
       limits = tt;
+      made = tt;
       nesting = nesting-unlocked w sound n it.0 it.1;
     }
 
@@ -105,15 +109,13 @@ any-parts p (x ∷ xs) ys none =
     let rest = any-parts p xs ys parts.1 in
     (ap (λ b. b || list_any p xs) parts.0 ∙ rest.0, rest.1)
 
-number-below : (w : State) → IsSound w → (n : ℕ) → list_any (λ o. not (exists w o)) (n ∷ []) ≡ false → n ≤ LAST_NUMBER
+number-below : (w : State) → IsSound w → (n : ℕ) → list_any (λ o. not (exists w o)) (n ∷ []) ≡ false → n < w.next
 number-below w sound n none =
     let it = found w n (not-false _ (or_parts (not (exists w n)) false none).0) in
-    let within = in_bounds 0 w.next n it.0 w.objects sound.rising it.1 in
-    let limit = sound.limit in
-    omega (arith, within.1)
+    (in_bounds 0 w.next n it.0 w.objects sound.rising it.1).1
 
 numbers-below : (w : State) → IsSound w → (key : Tree ℕ) → list_any (λ o. not (exists w o)) (atoms_of key) ≡ false
-    → AllObjects (λ n. n ≤ LAST_NUMBER) key
+    → AllObjects (λ n. n < w.next) key
 numbers-below w sound (Has n) none = number-below w sound n none
 numbers-below w sound (Asks n) none = number-below w sound n none
 numbers-below w sound (Not k) none = numbers-below w sound k none
@@ -132,7 +134,8 @@ key-within w sound key good =
         objects = ltb-false MOST_OBJECTS (objects_of key) counts.0;
         nots = ltb-false MOST_NOTS (nots_of key) counts.1;
       };
-      numbers = numbers-below w sound key parts.0;
+      numbers = all-implied (λ n. n < w.next) (λ n. n ≤ LAST_NUMBER)
+          (λ n below. let limit = sound.limit in omega (arith, below, limit)) key (numbers-below w sound key parts.0);
     }
 
 pub CanKey-lock : (w : State) → IsSound w → (a n : ℕ) (key : Tree ℕ)
@@ -143,5 +146,6 @@ CanKey-lock w sound a n key legal =
       there = not-false _ (or_parts _ _ none_holds.0).1;
       no_player = (or_parts _ _ none_holds.1.0).1;
       limits = key-within w sound key none_holds.1.1.1.1.1.1.0;
+      made = numbers-below w sound key (or_parts _ _ none_holds.1.1.1.1.1.1.0).0;
       nesting = not-false _ none_holds.1.1.1.1.1.1.1.0;
     }

@@ -14,6 +14,7 @@ pub mod Going
 pub mod Locking
 pub mod Locked
 pub mod Adding
+pub mod Older
 pub mod Linking
 pub mod Grown
 pub mod Removing
@@ -24,6 +25,7 @@ pub mod Keying
 pub mod Digging
 pub mod Carrying
 pub mod Recycling
+pub mod Named
 pub mod Naming
 mod FirstNames
 pub mod Listed

@@ -9,7 +9,7 @@ use Rattle.mud_world.specs.declared.record.Kind.TheVariants.{Room, Exit, Thing, 
 use Rattle.mud_world.specs.State.{State, record_at, place_of, kind_place, key_of, nests, all_nest, exists, has, follow}
 use Rattle.mud_world.specs.State.{is_room, is_exit, is_room_kind, is_exit_kind}
 use Rattle.mud_world.specs.Sound.{IsPlacedWell, IsSound}
-use Rattle.mud_world.specs.inner.Fields.{IsKeyless, IsLockedWell, with_record}
+use Rattle.mud_world.specs.inner.Fields.{IsKeyless, IsLockedWell, IsLockedBelow, with_record}
 use Rattle.mud_world.specs.Legal.{kind_at}
 use Rattle.mud_world.proofs.KindLemmas.{same_room, same_exit, same_player}
 use Rattle.mud_world.proofs.Naming.{named-same}
@@ -129,14 +129,16 @@ module _ (w : State) (sound : IsSound w) (t y : ℕ) (r : Record) (at : record_a
       (λ apart. sound.keyless n s (sym (there n apart) ∙ is))
       (cases_eq n t)
 
-  locked : (n : ℕ) (s : Record) → record_at w' n ≡ Some s → IsLockedWell s
-  locked n s is =
+  -- a fact about each record that does not name its kind
+  of_key : (P : Record → Type 0) → P r' → ((q : ℕ) (s : Record) → record_at w q ≡ Some s → P s) → (n : ℕ) (s : Record)
+      → record_at w' n ≡ Some s → P s
+  of_key P new old n s is =
       ⊎_elim
       (λ (e : n ≡ t).
       let found : Some r' ≡ Some s = sym here ∙ ap (record_at w') (sym e) ∙ is in
       let same : r' ≡ s = cc in
-      subst IsLockedWell same (sound.locked t r at))
-      (λ apart. sound.locked n s (sym (there n apart) ∙ is))
+      subst P same new)
+      (λ apart. old n s (sym (there n apart) ∙ is))
       (cases_eq n t)
 
   same_place : (a : ℕ) → a ≢ t → place_of w' a ≡ place_of w a
@@ -165,7 +167,8 @@ module _ (w : State) (sound : IsSound w) (t y : ℕ) (r : Record) (at : record_a
         (ends-off w w' t same_place way.0 y off way.1) first.0 m first.1 in
         no_circle-from_end w' all.0 m k all.1;
     keyless = keyless;
-    locked = locked;
+    locked = of_key IsLockedWell (sound.locked t r at) sound.locked;
+    made = of_key (IsLockedBelow w.next) (sound.made t r at) sound.made;
     nesting = nesting;
     hall = kept_room 0 ∙ sound.hall;
     named = named-same w t r r' sound.named at (same_player y r.kind) refl;

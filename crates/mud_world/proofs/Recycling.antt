@@ -109,6 +109,7 @@ sound-cost w sound a n cost legal =
       well = fits r.kind low (sound.placed n r it.1);
       keyless = λ place e. sound.keyless n r it.1 place (same-player cost r.kind place e);
       locked = sound.locked n r it.1;
+      made = sound.made n r it.1;
     } in
     let w' = with_record w n r' in
     subst IsSound (sym (changed_by w n (with_this_cost cost) r it.1)) (sound-changed w sound n r r' it.1 like
@@ -142,6 +143,7 @@ sound-renamed w sound n names can =
       well = sound.placed n r it.1;
       keyless = sound.keyless n r it.1;
       locked = sound.locked n r it.1;
+      made = sound.made n r it.1;
     } in
     let w' = with_record w n r' in
     subst IsSound (sym (changed_by w n (with_these_names names) r it.1)) (sound-changed w sound n r r' it.1 like

@@ -181,6 +181,7 @@ module _ (w : State) (sound : IsSound w) (n : ℕ) (can : CanRemove w n) where
         no_circle-from_end w' ends.0 m k ends.1;
     keyless = λ q r at. sound.keyless q r (old_at q r at);
     locked = λ q r at. sound.locked q r (old_at q r at);
+    made = λ q r at. sound.made q r (old_at q r at);
     nesting = all_nest-fewer w w' fewer w'.objects (list_all-remove _ n w.objects sound.nesting);
     hall = has_kept (λ r. is_room_kind r.kind) 0 (λ e. can.other (sym e)) ∙ sound.hall;
     named = named-kept w w' sound.named (λ q s at player. (s, old_at q s at, player, refl));

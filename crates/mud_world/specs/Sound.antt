@@ -1,7 +1,7 @@
 -- The invariant of every world.
-use Rattle.std.specs.Prelude.{◌≡◌, ◌≢◌, ℕ, ◌+◌, ◌≤◌, false, List, [], ◌∷◌, Some, None, IfSome, IsTrue}
+use Rattle.std.specs.Prelude.{◌≡◌, ◌≢◌, ℕ, ◌+◌, ◌<◌, ◌≤◌, false, List, [], ◌∷◌, Some, None, IfSome, IsTrue}
 use Rattle.std.proofs.Common.{suc}
-use Rattle.mud_key.specs.Tree.{IsKey}
+use Rattle.mud_key.specs.Tree.{IsKey, AllObjects}
 use Rattle.mud_world.specs.declared.limits.TheConstants.{NUMBERS, MOST_COST}
 use Rattle.mud_world.specs.declared.record.Kind.{Kind}
 use Rattle.mud_world.specs.declared.record.Kind.TheVariants.{Room, Exit, Thing, Player}
@@ -28,6 +28,8 @@ pub record IsSound (w : State) : Type 0 where
   pub no_circle : (n k : ℕ) → follow w (suc k) n ≢ Some n
   pub keyless : (n : ℕ) (r : Record) → record_at w n ≡ Some r → (place : ℕ) → r.kind ≡ Player place → r.key ≡ None
   pub locked : (n : ℕ) (r : Record) → record_at w n ≡ Some r → IfSome r.key IsKey
+  -- a key names only objects that were made, though some of them may be recycled
+  pub made : (n : ℕ) (r : Record) → record_at w n ≡ Some r → IfSome r.key (AllObjects (λ o. o < w.next))
   pub nesting : IsTrue (all_nest w)
   pub named : (a b : ℕ) (r s : Record) → record_at w a ≡ Some r → record_at w b ≡ Some s → a ≢ b
       → IsTrue (is_player_kind r.kind) → IsTrue (is_player_kind s.kind) → shares r.names s.names ≡ false

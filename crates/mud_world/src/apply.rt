@@ -97,13 +97,14 @@ impl World {
     }
 
     // Gives the object a copy of the key.
-    #[tactic(auto, unfolding(crate::specs::Legal::refusal))]
     fn lock(&mut self, actor: u32, object: u32, key: &Key) -> Result<(), AllocError>
         requires { refusal self.old (record { actor = actor; deed = Deed.Lock object key.now }) ≡ None }
         ensures ok { OnOk result (self.new
             ≡ after self.old (record { actor = actor; deed = Deed.Lock object key.now })) }
         ensures err { OnErr result (self.new ≡ self.old) }
     {
+        // for the prover: the world is sound
+        self.know_sound();
         let key = key.copy()?;
         self.set_key(object, Some(key))
     }

@@ -1,6 +1,6 @@
 //! Computes for all objects at once whether they are unlocked for a holder.
 
-ghost use Rattle.std.specs.Prelude.{◌≡◌, ℕ, false, true, slice_index_or, slice_set, nat_eq, IfOk};
+ghost use Rattle.std.specs.Prelude.{◌≡◌, ℕ, false, true, length, slice_index_or, slice_set, nat_eq, IfOk};
 ghost use Rattle.std.specs.Option.{option_map_or};
 ghost use Rattle.std.specs.List.{list_any};
 ghost use Rattle.mud_world.specs.declared.limits.TheConstants.{KEY_LEVELS};
@@ -59,7 +59,8 @@ impl World {
         before: &[bool],
     ) -> Result<Vec<bool>, AllocError>
         requires { IsPlain self.now plain.now.answers.items plain.now.locked.items }
-        ensures { IfOk result (λ after. (o : ℕ) → slice_index_or after.items o false
+        ensures count { IfOk result (λ after. length after.items ≡ self.now.next) }
+        ensures answers { IfOk result (λ after. (o : ℕ) → slice_index_or after.items o false
             ≡ has self.now o (λ r. option_map_or
             (key_true (λ a. list_any (nat_eq a) holding.now) (λ o. slice_index_or before.now o false)) r.key true)) }
     {
@@ -80,7 +81,8 @@ impl World {
 
     // Returns the results after all four levels, each computed from the one before.
     fn judge_levels(&self, alloc: Global, holding: &Holding) -> Result<Vec<bool>, AllocError>
-        ensures { IfOk result (λ answers. (o : ℕ) → slice_index_or answers.items o false
+        ensures count { IfOk result (λ answers. length answers.items ≡ self.now.next) }
+        ensures answers { IfOk result (λ answers. (o : ℕ) → slice_index_or answers.items o false
             ≡ unlocked_in self.now KEY_LEVELS (λ a. list_any (nat_eq a) holding.now) o) }
     {
         let plain = self.judge_plain(alloc)?;
@@ -90,11 +92,12 @@ impl World {
         self.judge_more(alloc, holding, &plain, &third)
     }
 
-    /// Returns for each number whether its object is unlocked for the holder (`unlocked`). A number past the end of the
-    /// list names no object. Each key is read once for each level, and its questions are table look-ups, however the
-    /// keys nest. The only error is out of memory.
+    /// Returns for each number below the next one whether its object is unlocked for the holder (`unlocked`). Each key
+    /// is read once for each level, and its questions are table look-ups, however the keys nest. The only error is out
+    /// of memory.
     pub fn judge(&self, alloc: Global, holding: &Holding) -> Result<Vec<bool>, AllocError>
-        ensures { IfOk result (λ answers. (c o : ℕ) → IsHolding self.now c holding.now
+        ensures count { IfOk result (λ answers. length answers.items ≡ self.now.next) }
+        ensures answers { IfOk result (λ answers. (c o : ℕ) → IsHolding self.now c holding.now
             → slice_index_or answers.items o false ≡ unlocked self.now c o) }
     {
         self.judge_levels(alloc, holding)

@@ -83,9 +83,9 @@ impl World {
         }
     }
 
-    // Returns whether the object is unlocked for the candidate. Few objects have a key, and the holding is computed
-    // only for those.
-    pub(crate) fn is_unlocked(&self, candidate: u32, object: u32) -> bool
+    /// Returns whether the object is unlocked for the candidate. Few objects have a key, and only those need the
+    /// candidate's holding. To ask about all objects, `judge` costs less.
+    pub fn is_unlocked(&self, candidate: u32, object: u32) -> bool
         ensures { result ≡ unlocked self.now candidate object }
     {
         self.is_keyless(object) || self.is_unlocked_for(candidate, object)

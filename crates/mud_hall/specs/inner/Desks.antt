@@ -7,7 +7,7 @@ use Rattle.mud_rules.specs.HeardLine.{heard_line, notice_text}
 use Rattle.mud_rules.specs.declared.verdict.Verdict.{Verdict}
 use Rattle.mud_rules.specs.declared.verdict.Verdict.TheVariants.{Ask}
 use Rattle.mud_rules.specs.declared.verdict.Query.TheVariants.{History}
-use Rattle.mud_roads.specs.Passable.{Knowledge, IsTraveller}
+use Rattle.mud_roads.specs.Passable.{Knowledge, IsTraveller, IsFollower}
 use Rattle.mud_world.specs.declared.limits.TheConstants.{MOST_ENTRIES}
 use Rattle.mud_guide.specs.declared.answer.Answer.{Answer}
 use Rattle.mud_chron.specs.Entry.{Entry}
@@ -72,8 +72,8 @@ IsResponse w v player verdict (Some a) =
 abbrev pub Travels : State → ℕ → Knowledge → Type 0
 Travels w p t = IsTraveller w t × (t.player ≡ p)
 
--- the context of an answer: a world's version, a player of it or none, and a traveller of it, if one is known
+-- the context of an answer: a world's version, a player of it or none, and a traveller that follows it, if one is known
 pub record IsSight (w : State) (v : ℕ) (player : Option ℕ) (t : Option Knowledge) : Type 0 where
   pub few : v ≤ MOST_ENTRIES
   pub seated : IfSome player (λ p. IsTrue (is_player w p))
-  pub known : IfSome t (IsTraveller w)
+  pub known : IfSome t (IsFollower w)

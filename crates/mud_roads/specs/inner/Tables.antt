@@ -1,5 +1,6 @@
 -- The tables of a traveller in memory.
 use Rattle.std.specs.Prelude.{◌≡◌, ℕ, ◌-◌, ◌≤◌, Bool, false, List, [], ◌∷◌, length, take, drop, slice_index_or}
+use Rattle.std.specs.Prelude.{if◌then◌else◌, nat_eq}
 use Rattle.mud_world.specs.State.{State, unlocked}
 use Rattle.mud_roads.specs.declared.label.Step.{Step}
 
@@ -12,6 +13,10 @@ rows from (end ∷ ends) steps = take (end - from) steps ∷ rows end ends (drop
 abbrev pub Fit : ℕ → List ℕ → List Step → Type 0
 Fit from [] steps = steps ≡ []
 Fit from (end ∷ ends) steps = (from ≤ end) × (end - from ≤ length steps) × Fit end ends (drop (end - from) steps)
+
+-- the step with this cost, if it is one of exit x
+abbrev pub costing : ℕ → ℕ → Step → Step
+costing x cost s = if nat_eq x s.exit then record s { cost = cost } else s
 
 -- the list says for each number whether the object is unlocked for p
 abbrev pub Knows : State → ℕ → List Bool → Type 0

@@ -1,6 +1,6 @@
 -- The premises for moving an object, giving it a key, adding it or removing it. A legal change satisfies them.
 use Rattle.std.specs.Prelude.{◌≡◌, ◌≢◌, ℕ, List, false, ◌<◌, [], ◌∷◌, Option, Some, None, IfSome, IsTrue}
-use Rattle.mud_key.specs.Tree.{Tree, IsKey}
+use Rattle.mud_key.specs.Tree.{Tree, IsKey, AllObjects}
 use Rattle.mud_world.specs.declared.limits.TheConstants.{NUMBERS}
 use Rattle.mud_world.specs.declared.record.Record.{Record}
 use Rattle.mud_world.specs.declared.record.Kind.{Kind}
@@ -40,6 +40,7 @@ pub record CanKey (w : State) (n : ℕ) (key : Option (Tree ℕ)) : Type 0 where
   pub there : IsTrue (exists w n)
   pub no_player : is_player w n ≡ false
   pub limits : IfSome key IsKey
+  pub made : IfSome key (AllObjects (λ o. o < w.next))
   pub nesting : IsTrue (all_nest (with_key w n key))
 
 -- object n can have these names

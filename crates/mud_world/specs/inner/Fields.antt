@@ -1,10 +1,10 @@
 -- Parts of results, of conditions and of the invariant.
-use Rattle.std.specs.Prelude.{◌≡◌, ◌≢◌, ℕ, ◌+◌, Bool, false, not, ◌&&◌, nat_eq, nat_lt, List, Option, Some, None}
+use Rattle.std.specs.Prelude.{◌≡◌, ◌≢◌, ℕ, ◌+◌, ◌<◌, Bool, false, not, ◌&&◌, nat_eq, nat_lt, List, Option, Some, None}
 use Rattle.std.specs.Prelude.{IfSome, IsTrue}
 use Rattle.std.specs.Option.{option_map_or}
 use Rattle.std.specs.List.{list_all}
 use Rattle.std.specs.Map.{set_value, remove_entry}
-use Rattle.mud_key.specs.Tree.{Tree, IsKey}
+use Rattle.mud_key.specs.Tree.{Tree, IsKey, AllObjects}
 use Rattle.mud_key.specs.Names.{AreNames}
 use Rattle.mud_key.specs.declared.codes.TheConstants.{SPACE, TILDE}
 use Rattle.mud_world.specs.declared.limits.TheConstants.{NUMBERS}
@@ -58,6 +58,10 @@ IsKeyless r = (place : ℕ) → r.kind ≡ Player place → r.key ≡ None
 -- the key, if there is one, is within the limits of keys
 abbrev pub IsLockedWell : Record → Type 0
 IsLockedWell r = IfSome r.key IsKey
+
+-- the key, if there is one, names only objects below this number
+abbrev pub IsLockedBelow : ℕ → Record → Type 0
+IsLockedBelow next r = IfSome r.key (AllObjects (λ o. o < next))
 
 -- no two players share a name
 abbrev pub AreNamedApart : State → Type 0

@@ -4,7 +4,7 @@ use Rattle.std.specs.Prelude.{string_bytes, IfSome}
 use Rattle.mud_chron.specs.Entry.{Entry}
 use Rattle.mud_row.specs.Known.{Standing}
 use Rattle.mud_chron.specs.Replay.{world_at}
-use Rattle.mud_roads.specs.Passable.{IsTraveller}
+use Rattle.mud_roads.specs.Passable.{IsFollower}
 use Rattle.mud_world.specs.State.{State}
 use Rattle.mud_world.specs.History.{step_or_same}
 use Rattle.mud_hall.specs.Desk.{IsHeld}
@@ -64,8 +64,8 @@ invariant_of-self-2 g c =
     let before : State = world_at was.list was.at in
     let after : c.world-2.result.now ≡ step_or_same before c.change.result.now =
     c.world-2.ensures ∙ next-world was new e is ∙ ap (step_or_same before) (sym c.change.ensures.change) in
-    let known : IfSome c.follow_change.new.traveller (IsTraveller (world_at new.list new.at)) =
-    subst (λ (w : State). IfSome c.follow_change.new.traveller (IsTraveller w)) c.world-2.ensures
+    let known : IfSome c.follow_change.new.traveller (IsFollower (world_at new.list new.at)) =
+    subst (λ (w : State). IfSome c.follow_change.new.traveller (IsFollower w)) c.world-2.ensures
     (c.follow_change.ensures before (world-sound (take was.at was.list)) held.known after) in
     held-next j.cells j.loaded d.number d.player inner.traveller c.follow_change.new.traveller was new e
     held is known

@@ -7,7 +7,7 @@ use Rattle.mud_world.specs.History.{world_of}
 use Rattle.mud_world.specs.Legal.{refusal, after}
 use Rattle.mud_world.proofs.Histories.{world_of-legal}
 use Rattle.mud_rules.specs.inner.Outcome.{IsActor}
-use Rattle.mud_roads.specs.Passable.{IsTraveller}
+use Rattle.mud_roads.specs.Passable.{IsFollower}
 use Rattle.mud_chron.specs.Entry.{Entry}
 use Rattle.mud_chron.specs.Replay.{changes_of}
 use Rattle.mud_chron.proofs.Spellable.{legal_is_spellable}
@@ -59,7 +59,7 @@ invariant_of-self-2 c =
       plays = subst (λ (w : State). IsTrue (is_player w e.actor)) (sym left)
           (actor-plays (world_after h) h (Some c.self.inside.player) e refl legal actor seated);
       known = c.follow_change.ensures (world_after h) (world-sound h)
-          (subst (λ (w : State). IfSome c.self.inside.traveller (IsTraveller w)) c.self.invariant.world
+          (subst (λ (w : State). IfSome c.self.inside.traveller (IsFollower w)) c.self.invariant.world
           c.self.invariant.known) (left ∙ sym (stepped-legal (world_after h) e legal));
     }
 

@@ -1,7 +1,7 @@
 use Rattle.std.proofs.Common.{◌≡◌, ℕ, ◌+◌, List, [], ◌∷◌, ◌++◌, map, length, get_or, sym, ◌∙◌, ap, arith}
 use Rattle.std.specs.List.{range_with_len}
 use Rattle.std.proofs.lemmas.List.{length-append}
-use Rattle.std.proofs.lemmas.List.FromFn.{map-range_with_len_more}
+use Rattle.std.proofs.lemmas.List.FromFn.{map-range_with_len_more, length-map-range_with_len}
 use Rattle.mud_roads.specs.declared.label.Step.{Step}
 use Rattle.mud_roads.specs.Passable.{roads_of}
 use Rattle.mud_roads.proofs.Rows.{rows-more, fit-more}
@@ -26,8 +26,16 @@ loop-room-preserved c =
           ∙ sym (map-range_with_len_more roads 0 c.loop-room.room c.loop-room.room (omega arith));
     }
 
-pub returns : goal.returns
-returns c = λ room.
+pub returns-clause-count : goal.returns-clause-count
+returns-clause-count c =
+    let size : c.loop-room.room ≡ c.args.world.now.next =
+    omega (arith, c.loop-room-test.false, c.loop-room.auto.room-end, c.next_number-count.ensures.next) in
+    ap length (c.of.ensures ∙ c.loop-room.invariant.rows)
+    ∙ length-map-range_with_len (roads_of c.args.world.now c.args.self.now.player) 0 c.loop-room.room
+    ∙ size
+
+pub returns-clause-roads : goal.returns-clause-roads
+returns-clause-roads c = λ room.
     let roads = roads_of c.args.world.now c.args.self.now.player in
     let size : c.loop-room.room ≡ c.args.world.now.next =
     omega (arith, c.loop-room-test.false, c.loop-room.auto.room-end, c.next_number-count.ensures.next) in

@@ -1,18 +1,19 @@
-use Rattle.std.proofs.Common.{Some, None, ap, subst, sym, ◌∙◌}
+use Rattle.std.proofs.Common.{subst, ap, ◌∙◌}
+use Rattle.std.proofs.lemmas.Result.{on_ok_weaker}
 use Rattle.mud_world.specs.State.{place_of}
-use Rattle.mud_roads.specs.Passable.{Knowledge, IsTraveller, moved_to}
-use Rattle.mud_roads.proofs.Following.{known-moved}
+use Rattle.mud_roads.specs.Passable.{Knowledge, IsFollower}
+use Rattle.mud_roads.specs.inner.Growing.{moved_to, recosted, IsGrown}
+use Rattle.mud_roads.proofs.Following.{grows}
 use Rattle.mud_roads.proofs.traveller.Traveller.follow.Goals as goal
 
-pub returns-in-Some-clause-traveller : goal.returns-in-Some-clause-traveller
-returns-in-Some-clause-traveller c = λ was e sound known keeps is.
+pub returns-clause-follower : goal.returns-clause-follower
+returns-clause-follower c = λ was sound known keeps step.
     let now = c.args.world.now in
-    let place = sym c.in-Some.is ∙ c.place.ensures ∙ ap (λ (t : Knowledge). place_of now t.player) c.self.view_is in
-    subst (λ (t : Knowledge). IsTraveller now (moved_to t (Some c.in-Some.place))) (sym c.self.view_is)
-    (known-moved was sound c.args.self.now known e keeps now is (Some c.in-Some.place) place)
-
-pub returns-in_default-clause-traveller : goal.returns-in_default-clause-traveller
-returns-in_default-clause-traveller c = λ was e sound known keeps is.
-    let now = c.args.world.now in
-    let place = sym c.in_default.is ∙ c.place.ensures ∙ ap (λ (t : Knowledge). place_of now t.player) c.self.view_is in
-    known-moved was sound c.args.self.now known e keeps now is None place
+    let moved = c.move_along.ensures
+    ∙ ap (λ (t : Knowledge). moved_to t (place_of now t.player)) c.heed.ensures in
+    let before =
+    c.take_cost.ensures ∙ ap (λ (t : Knowledge). recosted now c.args.change.now.deed t) moved in
+    on_ok_weaker {P = IsGrown now c.take_cost.new.self c.grow.new.self} {Q = IsFollower now c.grow.new.self}
+    c.grow.result
+    (λ grown. grows was sound c.args.self.now known c.args.change.now keeps now step c.grow.new.self
+    (subst (λ (t : Knowledge). IsGrown now t c.grow.new.self) before grown)) c.grow.ensures.grown

@@ -9,8 +9,8 @@ use Rattle.mud_world.specs.inner.Answers.{answers_with}
 use Rattle.mud_world.proofs.Written.{written-anew}
 use Rattle.mud_world.proofs.world.World.judge_more.Goals as goal
 
-pub returns : goal.returns
-returns c = λ o.
+pub returns-clause-answers : goal.returns-clause-answers
+returns-clause-answers c = λ o.
     let plain = c.args.plain.now in
     let test = key_true (λ a. list_any (nat_eq a) c.args.holding.now) (λ o. get_or c.args.before.now o false) in
     let new = λ (k : ℕ). has c.args.self.now k (λ r. option_map_or test r.key true) in

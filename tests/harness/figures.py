@@ -24,6 +24,22 @@ PRINTED = """a sync of /tmp: half within 0.1 ms
 and that is all
 """
 TABLES = [[["line", "here", ""], ["say a, b", "1,200", "x"], ["look", "", ""]], [["clients"], ["1"]]]
+# The end of a run of the gate.
+GATE = """   11 rt: mud_words is kept: an earlier run on this machine proved the same files
+  121 rt: mud_index proved
+  150 fn mud_index::lists::list_of: proved
+ 1800 wrong-bodies: 65 passed, 1 failed (900 s)
+ 1860 212 processor minutes
+10450 passed, 2 failed
+"""
+GATES = [
+    ["processor minutes", "212"],
+    ["minutes by the clock", "31"],
+    ["crates proved in the run", "1"],
+    ["crates proved by an earlier run", "1"],
+    ["wrong bodies refused, and failed", "65, 1"],
+    ["tests passed in all, and failed", "10450, 2"],
+]
 
 
 def script(name):
@@ -57,3 +73,5 @@ def figures(count):
     count("figures: what is kept of what was printed", found == TABLES, found)
     rows = "".join(map(script("tables").row, TABLES[0]))
     count("figures: a table again", rows == "| line | here | |\n| say a, b | 1,200 | x |\n| look | | |\n", rows)
+    whole, proofs = script("gate").rows(GATE)
+    count("figures: a run of the gate", (whole, proofs) == (GATES, [["mud_index", "2.0"]]), (whole, proofs))

@@ -1,6 +1,7 @@
 """The cost of a player's line: the number of instructions that callgrind counts for it. A program gets a script with
 some lines, and one with more of them; the difference is divided by their number, so the lines that build the world
 don't count. Three lines have a bound here; `bench/lines` has more of them, beside a plain program."""
+import functools
 import re
 import shutil
 import subprocess
@@ -81,15 +82,18 @@ def ring_routes():
 SAY = Line("say hello there everybody", [], ["say hello there everybody"])
 GO = Line("go X, there and back", ['@dig there|back to "Another room"'], ["go there", "go back"])
 RING = Line("route in a ring with chords", ring(), ring_routes(), fewer=5, more=20)
-# Lines that open and close nothing for the player, each with its own cost beside that of a route.
+# Lines that open and close nothing for the player, who has an axe. They take turns, one before each route.
 KEEPING = {
-    "talk": "say hi",
-    "a walk": "go next",
-    "a thing is made": "@create axe",
-    "a room is dug": '@dig "Cellar"',
-    "an exit is dug": "@dig stair to #2",
-    "a cost is set": "@cost #3 is 2",
-    "a name is set": "@rename #0 to \"The Hall\"",
+    "talk": ["say hi"],
+    "a walk": ["go next"],
+    "a thing is made": ["@create bow"],
+    "a room is dug": ['@dig "Cellar"'],
+    "an exit is dug": ["@dig stair to #2"],
+    "a cost is set": ["@cost #3 is 2"],
+    "a name is set": ["@rename #0 to \"The Hall\""],
+    "a key is set": ["@lock #3 with #1"],
+    "a thing is moved": ["drop axe", "take axe"],
+    "an object is recycled": ["@create bow", "@recycle bow"],
 }
 # These routes, all after a recycling.
 AFTER_RECYCLING = RING._replace(what="route after a recycling", world=[*RING.world, "@create axe", "@recycle axe"])
@@ -112,11 +116,17 @@ def why_dear(line, bound, right):
     return f"{cost:,.0f} instructions, and the bound is {bound:,}" if cost > SLACK * bound else ""
 
 
+@functools.cache
+def usual_cost():
+    """Returns the number of instructions of a route in the ring."""
+    return cost_of([program("mud_serve"), "script"], RING)[0]
+
+
 def why_dearer(line, alone=None):
     """Returns why the routes of a line are not all answered, or cost more than they may beside the usual ones, or
     nothing. `alone` are the lines between them, whose own cost doesn't count."""
-    serve = [program("mud_serve"), "script"]
-    (cost, told), (least, _) = (cost_of(serve, it) for it in (line, RING))
+    serve, least = [program("mud_serve"), "script"], usual_cost()
+    cost, told = cost_of(serve, line)
     cost -= cost_of(serve, alone)[0] if alone else 0
     answered = sum(answer.partition(" ")[2].startswith("route #") for answer in told.decode().splitlines())
     if answered != line.fewer + line.more:
@@ -131,6 +141,7 @@ def line_costs(count):
     for line, bound, right in BOUNDS:
         count.tries(f"line costs: {line.what}", why_dear, line, bound, right)
     count.tries(f"line costs: {AFTER_RECYCLING.what}", why_dearer, AFTER_RECYCLING)
-    for what, line in KEEPING.items():
-        after = RING._replace(asked=[f"{line}\n{route}" for route in RING.asked])
-        count.tries(f"line costs: route after {what}", why_dearer, after, RING._replace(asked=[line]))
+    world = [*RING.world, "@create axe"]
+    for what, lines in KEEPING.items():
+        after = RING._replace(world=world, asked=[f"{line}\n{route}" for line, route in zip(cycle(lines), RING.asked)])
+        count.tries(f"line costs: route after {what}", why_dearer, after, RING._replace(world=world, asked=lines))

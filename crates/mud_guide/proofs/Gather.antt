@@ -166,7 +166,7 @@ goers w ts = map (goer w) ts
 
 module _ (w : State) (ts : List Knowledge) (labels : ℕ → ℕ → Option Label) (least : AreLeast w ts labels) where
   abbrev nobody : Knowledge
-  nobody = knowledge_of 0 0 false [] []
+  nobody = knowledge_of 0 0 false ([], []) [] []
 
   abbrev member : ℕ → Knowledge
   member m = get_or ts m nobody

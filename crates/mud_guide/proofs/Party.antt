@@ -69,7 +69,7 @@ pub record IsParty (w : State) (to : Option ℕ) (ts : List Knowledge) (js : Lis
   pub listed : AreListed labels w.next js es
 
 abbrev pub nobody : Knowledge
-nobody = knowledge_of 0 0 false [] []
+nobody = knowledge_of 0 0 false ([], []) [] []
 
 abbrev pub nowhere : Leg
 nowhere = record { player = 0; from = 0; way = None }

@@ -4,12 +4,12 @@ ghost use Rattle.std.specs.Prelude.{◌≡◌, IfSome, IsTrue};
 ghost use Rattle.mud_world.specs.State.{State, is_player};
 ghost use Rattle.mud_world.specs.Sound.{IsSound};
 ghost use Rattle.mud_world.specs.History.{step_or_same};
-ghost use Rattle.mud_roads.specs.Passable.{IsFollower, keeps_exits};
+ghost use Rattle.mud_roads.specs.Passable.{IsFollower};
 ghost use Rattle.mud_hall.specs.inner.Desks.{Travels};
 
 use mud_roads::Traveller;
 use mud_rules::{Journey, Query, Verdict};
-use mud_world::{Change, Deed, World};
+use mud_world::{Change, World};
 use std::alloc::{AllocError, Global};
 
 /// Computes the traveller of the player who asks for a route, or makes the known one current. If an allocation fails,
@@ -68,26 +68,19 @@ pub(crate) fn traveller_of<'a>(
     }
 }
 
-/// Has a known traveller follow a change. `world` is the world after the change. The traveller is forgotten after a
-/// recycling, or if an allocation fails.
+/// Has a known traveller follow a change. `world` is the world after the change. If an allocation fails, the traveller
+/// is forgotten.
 pub(crate) fn follow_change(traveller: &mut Option<Traveller>, world: &World, change: &Change)
     ensures { (was : State) → IsSound was → IfSome traveller.old (IsFollower was)
         → world.now ≡ step_or_same was change.now → IfSome traveller.new (IsFollower world.now) }
 {
     let follows = match traveller {
-        Some(known) if keeps_exits(change) => known.follow(world, change).is_ok(),
-        _ => false,
+        Some(known) => known.follow(world, change).is_ok(),
+        None => true,
     };
     if !follows {
         *traveller = None;
     }
-}
-
-// Returns whether a change is not a recycling.
-fn keeps_exits(change: &Change) -> bool
-    ensures { result ≡ keeps_exits change.now.deed }
-{
-    !matches!(&change.deed, Deed::Recycle { .. })
 }
 
 // Returns whether a line asks for a route, or for the proof of one.

@@ -1,7 +1,8 @@
--- The knowledge of a traveller after a change that keeps the exits that were there.
-use Rattle.std.proofs.Common.{◌≡◌, ℕ, zero, suc, ◌-◌, ◌<◌, ◌≤◌, Bool, true, false, List, [], ◌∷◌, ◌++◌, length, map}
+-- The knowledge of a traveller after a change.
+use Rattle.std.proofs.Common.{◌≡◌, ◌≢◌, ℕ, zero, suc, ◌-◌, ◌<◌, ◌≤◌, Bool, true, false, List, [], ◌∷◌, ◌++◌, length}
+use Rattle.std.proofs.Common.{map}
 use Rattle.std.proofs.Common.{get_or, Option, Some, None, refl, sym, ◌∙◌, ap, subst, ⊎_elim, arith, append-nil}
-use Rattle.std.specs.Prelude.{IsTrue, is_none, if◌then◌else◌}
+use Rattle.std.specs.Prelude.{IsTrue, is_none, is_some, if◌then◌else◌}
 use Rattle.std.specs.Option.{option_map, option_map_or, option_and_then}
 use Rattle.std.specs.List.{filter_map, range_with_len}
 use Rattle.std.proofs.lemmas.Bool.{cases_eq, cases_lt, and_parts, or_parts, not-false, true≢false}
@@ -14,34 +15,39 @@ use Rattle.mud_world.specs.declared.record.Kind.TheVariants.{Room, Exit, Thing, 
 use Rattle.mud_world.specs.declared.change.Change.{Change}
 use Rattle.mud_world.specs.declared.change.Deed.{Deed}
 use Rattle.mud_world.specs.declared.change.Deed.TheVariants.{Say, Emote, Walk, Rename, Cost, Lock, Unlock, Move}
-use Rattle.mud_world.specs.declared.change.Deed.TheVariants.{Make, Dig, Player as NewPlayer}
+use Rattle.mud_world.specs.declared.change.Deed.TheVariants.{Make, Dig, Recycle, Player as NewPlayer}
 use Rattle.mud_world.specs.declared.refusal.Refusal.TheVariants.{WrongKind}
 use Rattle.mud_world.specs.Kinds.{kind_at, kind_costing, kind_place, kind_passage, is_player_kind}
 use Rattle.mud_world.specs.State.{State, record_at, is_room, is_player, place_of, comes_to, passage_of, destination_of}
-use Rattle.mud_world.specs.State.{leaving_of, unlocked}
+use Rattle.mud_world.specs.State.{is_number, leaving_of, unlocked}
+use Rattle.mud_world.specs.KeyIndex.{IsKeyIndex}
 use Rattle.mud_world.specs.Sound.{IsSound, IsPlacedWell}
 use Rattle.mud_world.specs.Legal.{refusal, after, with_new, with_record_changed, new_record, dig_records}
 use Rattle.mud_world.specs.History.{step_or_same}
-use Rattle.mud_world.specs.inner.Fields.{with_record, with_place, with_names, with_cost}
-use Rattle.mud_world.proofs.Records.{record_cases, in_bounds}
+use Rattle.mud_world.specs.inner.CanGo.{CanRemove}
+use Rattle.mud_world.specs.inner.Fields.{without_object, with_record, with_place, with_names, with_cost}
+use Rattle.mud_world.proofs.Forgetting.{passing-drop, passing-skip}
+use Rattle.mud_world.proofs.Records.{bool_cases, record_cases, in_bounds}
+use Rattle.mud_world.proofs.Removing.{lookup-remove_other, lookup-remove_same}
 use Rattle.mud_world.proofs.Carrying.{has-above}
 use Rattle.mud_world.proofs.Editing.{changed_by}
 use Rattle.mud_world.proofs.Going.{moved_by}
 use Rattle.mud_world.proofs.KindLemmas.{same_passage, same_player}
 use Rattle.mud_world.proofs.Least.{refusals_law}
 use Rattle.mud_world.proofs.Older.{record-kept, unlocked-kept}
-use Rattle.mud_world.proofs.Recycling.{with_this_cost, links-cost, kind-player}
+use Rattle.mud_world.proofs.Recycling.{CanRemove-recycle, with_this_cost, links-cost, kind-player}
 use Rattle.mud_world.proofs.Sounding.{soundness_law}
 use Rattle.mud_roads.specs.declared.label.Step.{Step}
-use Rattle.mud_roads.specs.Passable.{Knowledge, IsTraveller, IsFollower, keeps_exits, keeps_locks, known_roads}
+use Rattle.mud_roads.specs.Passable.{Knowledge, IsTraveller, IsDrawn, IsFollower, keeps_locks, known_roads}
 use Rattle.mud_roads.specs.Passable.{knowledge_of, knows_unlocked, tested_step, tested_roads, roads_of}
 use Rattle.mud_roads.specs.inner.Tables.{costing, Knows}
-use Rattle.mud_roads.specs.inner.Growing.{heeding, moved_to, recosted, step_from, is_marked, IsGrown}
+use Rattle.mud_roads.specs.inner.Growing.{heeding, moved_to, forgetting, adjusted, step_from, is_marked, IsGrown}
 use Rattle.mud_roads.proofs.Roads.{passage_cases, no-exits-past}
 use Rattle.mud_roads.proofs.Walking.{kept-unlocked}
 use Rattle.mud_roads.proofs.Walking.{comes-own, comes-other}
 use Rattle.mud_roads.proofs.Recosting.{roads-recosted, roads-alike, passages-same, passages-changed}
 use Rattle.mud_roads.proofs.Enlarging.{roads-enlarged}
+use Rattle.mud_roads.proofs.Recycled.{steps-without, forgets}
 use Rattle.mud_roads.proofs.Unmoved as still
 
 player-below : (w : State) → IsSound w → (p : ℕ) → is_player w p ≡ true → p < w.next
@@ -61,19 +67,29 @@ recosted_row x cost (row ∷ rows) (suc room) = recosted_row x cost rows room
 was_current : (d : Deed) (t : Knowledge) → IsTrue (heeding d t).current → IsTrue t.current × IsTrue (keeps_locks d)
 was_current d t is = and_parts t.current (keeps_locks d) is
 
--- the player has a place in the world now, and the follower there, with the cost that the deed sets, follows that world
+-- the player has a place in the world now, and the follower there, adjusted by the deed, follows that world
 record Heeds (now : State) (d : Deed) (t : Knowledge) : Type 0 where
   pub place : ℕ
   pub there : place_of now t.player ≡ Some place
-  pub known : IsFollower now (recosted now d (moved_to (heeding d t) (Some place)))
+  pub known : IsDrawn now (adjusted now d (moved_to (heeding d t) (Some place)))
 
--- taking over the cost that an exit has changes nothing
-recosted_same : (w : State) (t : Knowledge) → IsFollower w t → (d : Deed) → IsFollower w (recosted w d t)
-recosted_same w t known (Cost x cost) =
+player_apart : (w : State) (p n : ℕ) → is_player w p ≡ true → is_player w n ≡ false → p ≢ n
+player_apart w p n player other same = true≢false (sym player ∙ ap (is_player w) same ∙ other)
+
+-- taking over the cost that an exit has, or dropping an object that is not there, changes nothing
+adjusted_same : (w : State) → IsSound w → (t : Knowledge) → IsDrawn w t → (d : Deed) → IsDrawn w (adjusted w d t)
+adjusted_same w sound t known (Recycle n) =
+    record_cases (record_at w n)
+    (λ e. subst (λ (v : Option Record). IsDrawn w (if is_some v then t else forgetting n t)) (sym e)
+    (forgets w w sound n e (λ x off. refl) refl t known (λ g room none. refl)
+    (player_apart w t.player n known.player (ap (λ v. option_map_or (λ r. is_player_kind r.kind) v false) e)) t.current
+    (λ is x. (known.current is x, refl))))
+    (λ r e. subst (λ (v : Option Record). IsDrawn w (if is_some v then t else forgetting n t)) (sym e) known)
+adjusted_same w sound t known (Cost x cost) =
     passage_cases (passage_of w x)
-    (λ e. subst (λ (v : Option Passage). IsFollower w
+    (λ e. subst (λ (v : Option Passage). IsDrawn w
     (option_map_or (λ (a : Passage). record t { rows = map (map (costing x a.cost)) t.rows }) v t)) (sym e) known)
-    (λ a e. subst (λ (v : Option Passage). IsFollower w
+    (λ a e. subst (λ (v : Option Passage). IsDrawn w
     (option_map_or (λ (a : Passage). record t { rows = map (map (costing x a.cost)) t.rows }) v t)) (sym e)
     (record {
       player = known.player;
@@ -84,7 +100,7 @@ recosted_same w t known (Cost x cost) =
           ∙ sym (roads-recosted w w (knows_unlocked t) x a.cost (passages-same w x a e) (λ room. refl) room);
       current = known.current;
     }))
-recosted_same w t known d = known
+adjusted_same w sound t known d = known
 
 -- ---- a player's place
 seated_in : (w : State) → IsSound w → (q : ℕ) (r : Record) → record_at w q ≡ Some r → is_player_kind r.kind ≡ true
@@ -140,7 +156,7 @@ with_exits w n f ends players =
     }))
 
 -- a follower in such a world
-module _ (w now : State) (sound : IsSound now) (exits : HasExitsOf now w) (t : Knowledge) (known : IsFollower w t)
+module _ (w now : State) (sound : IsSound now) (exits : HasExitsOf now w) (t : Knowledge) (known : IsDrawn w t)
     (d : Deed) (keeps : IsTrue (keeps_locks d) → (n : ℕ) → unlocked now t.player n ≡ unlocked w t.player n) where
   here : is_player now t.player ≡ true
   here = exits.players t.player ∙ known.player
@@ -157,7 +173,7 @@ module _ (w now : State) (sound : IsSound now) (exits : HasExitsOf now w) (t : K
   heeds = record {
     place = seat.0;
     there = seat.1;
-    known = recosted_same now (moved_to (heeding d t) (Some seat.0)) (record {
+    known = adjusted_same now sound (moved_to (heeding d t) (Some seat.0)) (record {
       player = here;
       place = seat.1;
       marked = known.marked ∙ sym exits.next;
@@ -171,7 +187,7 @@ module _ (w now : State) (sound : IsSound now) (exits : HasExitsOf now w) (t : K
   }
 
 -- the world stays as it is
-unmoved : (w : State) → IsSound w → (t : Knowledge) → IsFollower w t → (d : Deed) → Heeds w d t
+unmoved : (w : State) → IsSound w → (t : Knowledge) → IsDrawn w t → (d : Deed) → Heeds w d t
 unmoved w sound t known d =
     heeds w w sound (record { next = refl; players = λ n. refl; passages = λ n. refl; leaving = λ room. refl }) t known
     d (λ is n. refl)
@@ -235,7 +251,7 @@ unlocked_named w p n names o =
     (still.comes-kept w n r (record r { names = names }) e refl p) o)
 
 -- ---- another cost
-module _ (w : State) (t : Knowledge) (known : IsFollower w t) (x cost : ℕ) (r : Record)
+module _ (w : State) (t : Knowledge) (known : IsDrawn w t) (x cost : ℕ) (r : Record)
     (e : record_at w x ≡ Some r) where
   abbrev r' : Record
   r' = with_this_cost cost r
@@ -264,12 +280,12 @@ module _ (w : State) (t : Knowledge) (known : IsFollower w t) (x cost : ℕ) (r 
 
   -- an object that is not an exit stays as it was
   as_before : (k : Kind) → r.kind ≡ k → kind_costing cost k ≡ k → kind_passage k ≡ None
-      → IsFollower costed (recosted costed (Cost x cost) heeded)
+      → IsDrawn costed (adjusted costed (Cost x cost) heeded)
   as_before k kind same none =
       let like : kind_costing cost r.kind ≡ r.kind = ap (kind_costing cost) kind ∙ same ∙ sym kind in
       let at : passage_of costed x ≡ None =
       ap (option_and_then (λ r. kind_passage r.kind)) (still.here w x r r' e) ∙ ap kind_passage (like ∙ kind) ∙ none in
-      subst (λ (v : Option Passage). IsFollower costed (option_map_or
+      subst (λ (v : Option Passage). IsDrawn costed (option_map_or
       (λ (a : Passage). record heeded { rows = map (map (costing x a.cost)) t.rows }) v heeded)) (sym at)
       (record {
         player = player_still;
@@ -282,12 +298,12 @@ module _ (w : State) (t : Knowledge) (known : IsFollower w t) (x cost : ℕ) (r 
         current = current_still;
       })
 
-  of_kind : (k : Kind) → r.kind ≡ k → IsFollower costed (recosted costed (Cost x cost) heeded)
+  of_kind : (k : Kind) → r.kind ≡ k → IsDrawn costed (adjusted costed (Cost x cost) heeded)
   of_kind (Exit p) kind =
       let at : passage_of costed x ≡ Some (record p { cost = cost }) =
       ap (option_and_then (λ r. kind_passage r.kind)) (still.here w x r r' e)
       ∙ ap (λ k. kind_passage (kind_costing cost k)) kind in
-      subst (λ (v : Option Passage). IsFollower costed (option_map_or
+      subst (λ (v : Option Passage). IsDrawn costed (option_map_or
       (λ (a : Passage). record heeded { rows = map (map (costing x a.cost)) t.rows }) v heeded)) (sym at)
       (record {
         player = player_still;
@@ -306,7 +322,7 @@ module _ (w : State) (t : Knowledge) (known : IsFollower w t) (x cost : ℕ) (r 
   heeds_cost : Heeds costed (Cost x cost) t
   heeds_cost = record { place = t.place; there = place_still; known = of_kind r.kind refl }
 
-heeds_cost_set : (w : State) → IsSound w → (t : Knowledge) → IsFollower w t → (x cost : ℕ)
+heeds_cost_set : (w : State) → IsSound w → (t : Knowledge) → IsDrawn w t → (x cost : ℕ)
     → Heeds (with_cost w x cost) (Cost x cost) t
 heeds_cost_set w sound t known x cost =
     record_cases (record_at w x)
@@ -317,15 +333,57 @@ heeds_cost_set w sound t known x cost =
     (sym (ap (λ v. option_map_or (λ (r : Record). with_record w x (with_this_cost cost r)) v w) e))
     (heeds_cost w t known x cost r e))
 
+-- ---- an object that is gone
+module _ (w : State) (sound : IsSound w) (t : Knowledge) (known : IsDrawn w t) (n : ℕ) (can : CanRemove w n)
+    (sound' : IsSound (without_object w n)) where
+  abbrev left : State
+  left = without_object w n
+
+  gone : record_at left n ≡ None
+  gone = lookup-remove_same n 0 w.next w.objects sound.rising
+
+  kept : (x : ℕ) → x ≢ n → record_at left x ≡ record_at w x
+  kept x off = lookup-remove_other n x off w.objects
+
+  apart : t.player ≢ n
+  apart = player_apart w t.player n known.player can.no_player
+
+  leaves : ℕ → Record → Bool
+  leaves room = λ r. is_number room (option_map (λ a. a.source) (kind_passage r.kind))
+
+  -- the exits of a room, but for one that has no step
+  steps_left : (g : ℕ → Option Step) (room : ℕ) → g n ≡ None
+      → filter_map g (leaving_of left room) ≡ filter_map g (leaving_of w room)
+  unfolding leaves
+  steps_left g room none =
+      record_cases (record_at w n)
+      (λ e. absurd (true≢false (sym can.there ∙ ap is_some e)))
+      (λ r e.
+      bool_cases (leaves room r)
+      (λ is.
+      ap (filter_map g) (passing-drop (leaves room) n 0 w.next r w.objects sound.rising e is)
+      ∙ steps-without g n none (leaving_of w room))
+      (λ off. ap (filter_map g) (passing-skip (leaves room) n r w.objects e off)))
+
+  heeds_gone : Heeds left (Recycle n) t
+  heeds_gone = record {
+    place = t.place;
+    there = ap (option_and_then (λ r. kind_place r.kind)) (kept t.player apart) ∙ known.place;
+    known = subst (λ (v : Option Record). IsDrawn left
+        (if is_some v then heeding (Recycle n) t else forgetting n (heeding (Recycle n) t))) (sym gone)
+        (forgets w left sound' n gone kept refl t known steps_left apart (heeding (Recycle n) t).current
+        (λ is x. absurd (true≢false (sym (was_current (Recycle n) t is).1))));
+  }
+
 -- ---- new objects
 -- the knowledge after the deed, and after growing to this world
 abbrev Grows : State → Deed → Knowledge → Type 0
 Grows now d t =
-    (t' : Knowledge) → IsGrown now (recosted now d (moved_to (heeding d t) (place_of now t.player))) t'
-    → IsFollower now t'
+    (t' : Knowledge) → IsGrown now (adjusted now d (moved_to (heeding d t) (place_of now t.player))) t'
+    → IsDrawn now t'
 
 -- a follower that knows all objects stays as it is
-grown_none : (now : State) (t t' : Knowledge) → IsFollower now t → IsGrown now t t' → IsFollower now t'
+grown_none : (now : State) (t t' : Knowledge) → IsDrawn now t → IsGrown now t t' → IsDrawn now t'
 grown_none now t t' known grown =
     let none : now.next - length t.marks ≡ 0 = let size = known.marked in omega (arith, size) in
     let marks : t'.marks ≡ t.marks =
@@ -355,7 +413,7 @@ grown_none now t t' known grown =
     }
 
 module _ (w : State) (sound : IsSound w) (rs : List Record) (sound' : IsSound (with_new w rs)) (t t' : Knowledge)
-    (known : IsFollower w t) (grown : IsGrown (with_new w rs) t t') where
+    (known : IsDrawn w t) (grown : IsGrown (with_new w rs) t t') where
   abbrev larger : State
   larger = with_new w rs
 
@@ -435,7 +493,7 @@ module _ (w : State) (sound : IsSound w) (rs : List Record) (sound' : IsSound (w
       get_or_past t'.rows room [] le ∙ sym (none_past room (omega (arith, le, long))))
       (cases_lt room (length t'.rows))
 
-  grown_more : IsFollower larger t'
+  grown_more : IsDrawn larger t'
   grown_more = record {
     player = ap (is_player larger) grown.player
         ∙ ap (λ v. option_map_or (λ r. is_player_kind r.kind) v false) (record-kept w sound rs p p_below)
@@ -449,18 +507,18 @@ module _ (w : State) (sound : IsSound w) (rs : List Record) (sound' : IsSound (w
     current = λ is n. marks_true (sym grown.current ∙ is) n ∙ ap (λ (q : ℕ). unlocked larger q n) (sym grown.player);
   }
 
--- ---- a change that keeps the exits, legal or not
-module _ (w : State) (sound : IsSound w) (t : Knowledge) (known : IsFollower w t) where
+-- ---- a change, legal or not
+module _ (w : State) (sound : IsSound w) (t : Knowledge) (known : IsDrawn w t) where
   -- a change that adds no object
   grows_none : (now : State) (d : Deed) → Heeds now d t → Grows now d t
   grows_none now d it t' grown =
-      grown_none now (recosted now d (moved_to (heeding d t) (Some it.place))) t' it.known
-      (subst (λ (v : Option ℕ). IsGrown now (recosted now d (moved_to (heeding d t) v)) t') it.there grown)
+      grown_none now (adjusted now d (moved_to (heeding d t) (Some it.place))) t' it.known
+      (subst (λ (v : Option ℕ). IsGrown now (adjusted now d (moved_to (heeding d t) v)) t') it.there grown)
 
   -- one that adds some, and keeps the locks
   grows_more : (rs : List Record) → IsSound (with_new w rs) → (t' : Knowledge) → (d : Deed)
       → IsGrown (with_new w rs) (moved_to (heeding d t) (place_of (with_new w rs) t.player)) t'
-      → IsFollower (with_new w rs) t'
+      → IsDrawn (with_new w rs) t'
   grows_more rs sound' t' d grown =
       let below = player-below w sound t.player known.player in
       let there : place_of (with_new w rs) t.player ≡ Some t.place =
@@ -483,53 +541,54 @@ module _ (w : State) (sound : IsSound w) (t : Knowledge) (known : IsFollower w t
       heeds w (with_record_changed w n f) sound' (with_exits w n f ends players) t known d
       (λ keeps. absurd (true≢false (sym keeps ∙ may)))
 
-  after_legal : (q : ℕ) (d : Deed) → IsTrue (keeps_exits d) → refusal w (record { actor = q; deed = d }) ≡ None
+  after_legal : (q : ℕ) (d : Deed) → refusal w (record { actor = q; deed = d }) ≡ None
       → IsSound (after w (record { actor = q; deed = d })) → Grows (after w (record { actor = q; deed = d })) d t
-  after_legal q (Say text) is legal sound' = grows_none _ (Say text) (unmoved w sound t known (Say text))
-  after_legal q (Emote text) is legal sound' = grows_none _ (Emote text) (unmoved w sound t known (Emote text))
-  after_legal q (Walk x) is legal sound' =
+  after_legal q (Say text) legal sound' = grows_none _ (Say text) (unmoved w sound t known (Say text))
+  after_legal q (Emote text) legal sound' = grows_none _ (Emote text) (unmoved w sound t known (Emote text))
+  after_legal q (Walk x) legal sound' =
       grows_none _ (Walk x) (heeds w _ sound' (walked_exits w q (destination_of w x)) t known (Walk x)
       (λ keeps. unlocked-walked w sound t.player known.player q x legal))
-  after_legal q (Rename n names) is legal sound' =
+  after_legal q (Rename n names) legal sound' =
       grows_none _ (Rename n names) (heeds w _ sound'
       (with_exits w n (λ r. record r { names = names }) (λ r. refl) (λ r. refl)) t known (Rename n names)
       (λ keeps. unlocked_named w t.player n names))
-  after_legal q (Cost x cost) is legal sound' = grows_none _ (Cost x cost) (heeds_cost_set w sound t known x cost)
-  after_legal q (Lock n key) is legal sound' =
+  after_legal q (Cost x cost) legal sound' = grows_none _ (Cost x cost) (heeds_cost_set w sound t known x cost)
+  after_legal q (Lock n key) legal sound' =
       grows_none _ (Lock n key)
       (doubts n (λ r. record r { key = Some key }) (Lock n key) refl (λ r. refl) (λ r. refl) sound')
-  after_legal q (Unlock n) is legal sound' =
+  after_legal q (Unlock n) legal sound' =
       grows_none _ (Unlock n) (doubts n (λ r. record r { key = None }) (Unlock n) refl (λ r. refl) (λ r. refl) sound')
-  after_legal q (Move n to) is legal sound' =
+  after_legal q (Move n to) legal sound' =
       grows_none _ (Move n to)
       (doubts n (λ r. record r { kind = kind_at to r.kind }) (Move n to) refl (λ r. same_passage to r.kind)
       (λ r. same_player to r.kind) sound')
-  after_legal q (Make names) is legal sound' =
+  after_legal q (Make names) legal sound' =
       λ t'. grows_more (new_record q names (Thing q) ∷ []) sound' t' (Make names)
-  after_legal q (NewPlayer name) is legal sound' =
+  after_legal q (NewPlayer name) legal sound' =
       λ t'. grows_more (new_record q (name ∷ []) (Player 0) ∷ []) sound' t' (NewPlayer name)
-  after_legal q (Dig target doors) is legal sound' =
+  after_legal q (Dig target doors) legal sound' =
       λ t'. grows_more (dig_records w q target doors) sound' t' (Dig target doors)
-  after_legal q d is legal sound' = absurd (true≢false (sym is))
+  after_legal q (Recycle n) legal sound' =
+      grows_none _ (Recycle n) (heeds_gone w sound t known n (CanRemove-recycle w q n legal) sound')
 
-  pub grows : (e : Change) → IsTrue (keeps_exits e.deed) → (now : State) → now ≡ step_or_same w e → Grows now e.deed t
-  grows e is now step =
+  pub grows : (e : Change) → (now : State) → now ≡ step_or_same w e → Grows now e.deed t
+  grows e now step =
       by_refusal (refusal w e) refl
     where
       by_refusal : (v : Option _) → refusal w e ≡ v → Grows now e.deed t
       by_refusal None legal =
           subst (λ (s : State). Grows s e.deed t)
           (sym (step ∙ ap (λ v. if is_none v then after w e else w) legal))
-          (after_legal e.actor e.deed is legal (soundness_law w e sound legal))
+          (after_legal e.actor e.deed legal (soundness_law w e sound legal))
       by_refusal (Some f) illegal =
           subst (λ (s : State). Grows s e.deed t)
           (sym (step ∙ ap (λ v. if is_none v then after w e else w) illegal))
           (grows_none w e.deed (unmoved w sound t known e.deed))
 
--- ---- followers and travellers
-pub traveller-follows : (w : State) (t : Knowledge) → IsTraveller w t → IsFollower w t
+-- ---- travellers and drawings
+pub traveller-drawn : (w : State) (t : Knowledge) → IsTraveller w t → IsDrawn w t
 unfolding roads_of
-traveller-follows w t is =
+traveller-drawn w t is =
     let tests : unlocked w t.player ≡ knows_unlocked t = λ i n. (sym (is.marks n)) i in
     record {
       player = is.player;
@@ -541,10 +600,10 @@ traveller-follows w t is =
     }
 
 -- a follower whose marks are true
-pub follower-travels : (w : State) (t : Knowledge) → IsFollower w t
+pub drawn-travels : (w : State) (t : Knowledge) → IsDrawn w t
     → ((n : ℕ) → knows_unlocked t n ≡ unlocked w t.player n) → IsTraveller w t
 unfolding roads_of
-follower-travels w t is marks =
+drawn-travels w t is marks =
     let tests : knows_unlocked t ≡ unlocked w t.player = λ i n. (marks n) i in
     record {
       player = is.player;
@@ -563,16 +622,52 @@ marked-roads w p marks knows room =
     let tests : is_marked marks ≡ unlocked w p = λ i n. (knows n) i in
     ap (λ (test : ℕ → Bool). tested_roads w test room) tests
 
--- a follower with true marks, and the rows that belong to them
-pub refreshed : (w : State) (t : Knowledge) → IsFollower w t → (p : ℕ) → p ≡ t.player → (marks : List Bool)
+-- a drawing with true marks, and the rows that belong to them
+pub refreshed : (w : State) (t : Knowledge) → IsDrawn w t → (p : ℕ) → p ≡ t.player → (marks : List Bool)
     → length marks ≡ w.next → Knows w p marks → (rows : List (List Step)) → length rows ≡ w.next
     → ((room : ℕ) → get_or rows room [] ≡ roads_of w p room) → (b : Bool)
-    → IsTraveller w (knowledge_of p t.place b marks rows)
-refreshed w t follows p same marks marked knows rows lined roads b = record {
-  player = ap (is_player w) same ∙ follows.player;
-  place = ap (place_of w) same ∙ follows.place;
+    → IsTraveller w (knowledge_of p t.place b t.keys marks rows)
+refreshed w t is p same marks marked knows rows lined roads b = record {
+  player = ap (is_player w) same ∙ is.player;
+  place = ap (place_of w) same ∙ is.place;
   marked = marked;
   marks = knows;
   lined = lined;
   roads = roads;
 }
+
+-- growing does not look at the keys
+pub grown-apart : (now : State) (t : Knowledge) (keys : List Bool × List ℕ) (t' : Knowledge)
+    → IsGrown now (record t { keys = keys }) t' → IsGrown now t t'
+grown-apart now t keys t' is = record {
+  player = is.player;
+  place = is.place;
+  current = is.current;
+  marks = is.marks;
+  lined = is.lined;
+  rows = is.rows;
+}
+
+adjusted_keys : (now : State) (d : Deed) (t : Knowledge) → (adjusted now d t).keys ≡ t.keys
+adjusted_keys now (Cost x cost) t = by_passage (passage_of now x)
+  where
+    by_passage : (v : Option Passage)
+        → (option_map_or (λ (a : Passage). record t { rows = map (map (costing x a.cost)) t.rows }) v t).keys ≡ t.keys
+    by_passage None = refl
+    by_passage (Some a) = refl
+adjusted_keys now (Recycle n) t = by_record (record_at now n)
+  where
+    by_record : (v : Option Record) → (if is_some v then t else forgetting n t).keys ≡ t.keys
+    by_record None = refl
+    by_record (Some r) = refl
+adjusted_keys now d t = refl
+
+-- neither does the rest of following a change
+pub keys-kept : (now : State) (d : Deed) (t : Knowledge) (place : Option ℕ)
+    → (adjusted now d (moved_to t place)).keys ≡ t.keys
+keys-kept now d t None = adjusted_keys now d t
+keys-kept now d t (Some p) = adjusted_keys now d (record t { place = p })
+
+-- a traveller with the index of the keys
+pub traveller-follows : (w : State) (t : Knowledge) → IsTraveller w t → IsKeyIndex w t.keys → IsFollower w t
+traveller-follows w t is keys = record { drawing = traveller-drawn w t is; keys = keys }

@@ -1,12 +1,14 @@
 pub mod Bounds
 pub mod Routes
 pub mod Rows
+pub mod Removing
 pub mod Roads
 pub mod Opened
 pub mod Unmoved
 pub mod Walking
 pub mod Recosting
 pub mod Enlarging
+pub mod Recycled
 pub mod Following
 pub mod Single
 pub mod Alike

@@ -1,8 +1,9 @@
 //! The objects that are unlocked for a player.
 
 ghost use Rattle.std.specs.Prelude.{◌≡◌, ◌↔◌, ℕ, ◌<◌, [], ◌++◌, length, map, IfOk, OnOk, IsTrue, slice_index_or};
-ghost use Rattle.std.specs.Prelude.{false};
+ghost use Rattle.std.specs.Prelude.{slice_set, false};
 ghost use Rattle.std.specs.List.{filter_map, cons_option};
+ghost use Rattle.mud_world.specs.KeyIndex.{IsKeyIndex};
 ghost use Rattle.mud_world.specs.State.{unlocked};
 ghost use Rattle.mud_roads.specs.Passable.{passable, open_step, roads_of, tested_step};
 ghost use Rattle.mud_roads.specs.inner.Tables.{Knows};
@@ -10,7 +11,7 @@ ghost use Rattle.mud_roads.specs.inner.Growing.{step_from, numbers_from, is_mark
 
 use crate::Step;
 use crate::table::Table;
-use mud_world::World;
+use mud_world::{KeyIndex, World};
 use std::alloc::{AllocError, Global};
 
 // A player, and for each number whether the object is unlocked for the player.
@@ -20,23 +21,50 @@ pub(crate) struct Access {
     marks: Vec<bool>,
 }
 
+// Returns whether both lists of marks are the same. It looks at all of them, so that the compiler compares several at
+// once.
+fn are_same(marks: &[bool], others: &[bool]) -> bool
+    ensures { IsTrue result ↔ (marks.now ≡ others.now) }
+{
+    if marks.len() != others.len() {
+        return false;
+    }
+    let mut differ = false;
+    for at in 0..marks.len() {
+        differ |= marks[at] != others[at];
+    }
+    !differ
+}
+
 // Returns for each number whether the object is unlocked for the player.
-fn unlocked_for(alloc: Global, world: &World, player: u32) -> Result<Vec<bool>, AllocError>
+fn unlocked_for(
+    alloc: Global,
+    world: &World,
+    keys: &KeyIndex,
+    player: u32,
+) -> Result<Vec<bool>, AllocError>
+    requires { IsKeyIndex world.now keys.now }
     ensures count { IfOk result (λ marks. length marks.items ≡ world.now.next) }
     ensures knows { IfOk result (λ marks. Knows world.now player marks.items) }
 {
     let holding = world.carried(player)?;
-    world.judge(alloc, &holding)
+    world.judge(alloc, keys, &holding)
 }
 
 impl Access {
     // Computes the objects that are unlocked for the player.
-    pub(crate) fn of(alloc: Global, world: &World, player: u32) -> Result<Access, AllocError>
+    pub(crate) fn of(
+        alloc: Global,
+        world: &World,
+        keys: &KeyIndex,
+        player: u32,
+    ) -> Result<Access, AllocError>
+        requires { IsKeyIndex world.now keys.now }
         ensures count { IfOk result (λ a. length a.marks.items ≡ world.now.next) }
         ensures knows { IfOk result (λ a. Knows world.now player a.marks.items) }
         ensures player { IfOk result (λ a. a.player ≡ player) }
     {
-        let marks = unlocked_for(alloc, world, player)?;
+        let marks = unlocked_for(alloc, world, keys, player)?;
         Ok(Access { player, marks })
     }
 
@@ -54,7 +82,17 @@ impl Access {
     pub(crate) fn has_marks_of(&self, other: &Access) -> bool
         ensures { IsTrue result ↔ (self.now.marks.items ≡ other.now.marks.items) }
     {
-        self.marks == other.marks
+        are_same(&self.marks, &other.marks)
+    }
+
+    // Takes the mark of an object away.
+    pub(crate) fn unmark(&mut self, number: u32)
+        ensures player { self.new.player ≡ self.old.player }
+        ensures marks { self.new.marks.items ≡ slice_set self.old.marks.items number false }
+    {
+        if let Some(mark) = self.marks.get_mut(number as usize) {
+            *mark = false;
+        }
     }
 
     // Returns the number of objects that are known.

@@ -1,8 +1,8 @@
 //! Steps by room.
 
 ghost use Rattle.std.specs.Prelude.{◌≡◌, suc, ◌-◌, ◌^◌, ◌<◌, ◌≤◌, [], ◌∷◌, ◌++◌, length, take, drop, map};
-ghost use Rattle.std.specs.Prelude.{slice_index_or, slice_set, replicate, All, OnOk, OnErr};
-ghost use Rattle.mud_roads.specs.inner.Tables.{rows, Fit, costing};
+ghost use Rattle.std.specs.Prelude.{slice_index_or, slice_set, replicate, filter, position, nat_eq, All, OnOk, OnErr};
+ghost use Rattle.mud_roads.specs.inner.Tables.{rows, Fit, costing, is_apart, end_without};
 
 use crate::Step;
 use std::alloc::AllocError;
@@ -98,6 +98,16 @@ impl Table {
     {
         set_costs(&mut self.steps, exit, cost);
     }
+
+    // Removes the steps of an exit.
+    pub(crate) fn remove(&mut self, exit: u32)
+        ensures { self.new ≡ map (filter (is_apart exit)) self.old }
+    {
+        while let Some(index) = index_of(&self.steps, exit) {
+            self.steps.remove(index);
+            lower(&mut self.ends, index);
+        }
+    }
 }
 
 // Returns the index at which a row begins: the end of the row before it.
@@ -143,6 +153,24 @@ fn set_costs(steps: &mut [Step], exit: u32, cost: u32)
     for step in steps.iter_mut() {
         if step.exit == exit {
             step.cost = cost;
+        }
+    }
+}
+
+// Returns the index of the first step of an exit.
+fn index_of(steps: &[Step], exit: u32) -> Option<usize>
+    ensures { result ≡ position (λ s. nat_eq exit s.exit) steps.now }
+{
+    steps.iter().position(|step| step.exit == exit)
+}
+
+// Subtracts 1 from each end after this index.
+fn lower(ends: &mut [usize], index: usize)
+    ensures { ends.new ≡ map (end_without index) ends.old }
+{
+    for end in ends.iter_mut() {
+        if index < *end {
+            *end -= 1;
         }
     }
 }

@@ -1,22 +1,25 @@
 //! Travellers.
 
-ghost use Rattle.std.specs.Prelude.{◌≡◌, ◌&&◌, IfOk, OnOk, OnErr, IsTrue};
-ghost use Rattle.mud_world.specs.State.{State, is_player, place_of};
+ghost use Rattle.std.specs.Prelude.{◌≡◌, ◌&&◌, map, if◌then◌else◌, IfOk, OnOk, OnErr, IsTrue};
+ghost use Rattle.std.specs.Option.{option_map_or};
+ghost use Rattle.mud_world.specs.State.{State, exists, is_player, place_of, passage_of};
+ghost use Rattle.mud_world.specs.KeyIndex.{IsKeyIndex};
 ghost use Rattle.mud_world.specs.Sound.{IsSound};
 ghost use Rattle.mud_world.specs.History.{step_or_same};
 ghost use Rattle.mud_roads.specs.Passable.{passable, open_step, roads_of, known_roads, keeps_locks};
-ghost use Rattle.mud_roads.specs.Passable.{keeps_exits, IsTraveller, IsFollower};
-ghost use Rattle.mud_roads.specs.inner.Growing.{heeding, moved_to, recosted, IsGrown};
+ghost use Rattle.mud_roads.specs.Passable.{IsTraveller, IsFollower};
+ghost use Rattle.mud_roads.specs.inner.Growing.{heeding, moved_to, forgetting, adjusted, IsGrown};
+ghost use Rattle.mud_roads.specs.inner.Tables.{costing};
 
 use crate::Step;
 use crate::access::Access;
 use crate::table::Table;
-use mud_world::{Change, Deed, World};
+use mud_world::{Change, Deed, KeyIndex, World};
 use std::alloc::{AllocError, Global};
 use std::marker::Model;
 
 /// A player of a world, with its place and everything that is open to it. A traveller is a snapshot of one world, and
-/// follows each later change except a recycling. After a change that may open or close something that was there, it is
+/// follows each later change. After a change that may open or close something that was there, it is
 /// no longer current, until it is refreshed. Making one evaluates each key of the world once, and each exit once.
 /// Following a change evaluates new objects only. Refreshing one evaluates the keys, and the exits only if something
 /// was opened or closed.
@@ -25,6 +28,7 @@ pub struct Traveller {
     access: Access,
     place: u32,
     is_current: bool,
+    keys: KeyIndex,
     roads: Table,
 }
 
@@ -35,7 +39,7 @@ impl Model for Traveller {
 
     ghost coded = { knowledge_code };
 
-    ghost view = { λ t. knowledge_of t.access.player t.place t.is_current t.access.marks.items t.roads };
+    ghost view = { λ t. knowledge_of t.access.player t.place t.is_current t.keys t.access.marks.items t.roads };
 }
 
 // Returns whether a change opens and closes nothing that was there.
@@ -53,16 +57,19 @@ impl Traveller {
     pub fn of(alloc: Global, world: &World, player: u32) -> Result<Traveller, AllocError>
         requires { IsTrue (is_player world.now player) }
         ensures traveller { IfOk result (IsTraveller world.now) }
+        ensures keys { IfOk result (λ t. IsKeyIndex world.now t.keys) }
         ensures player { IfOk result (λ t. t.player ≡ player) }
         ensures current { IfOk result (λ t. IsTrue t.current) }
     {
-        let access = Access::of(alloc, world, player)?;
+        let keys = KeyIndex::of(alloc, world)?;
+        let access = Access::of(alloc, world, &keys, player)?;
         let roads = access.roads(alloc, world)?;
         match world.place(player) {
             Some(place) => Ok(Traveller {
                 access,
                 place,
                 is_current: true,
+                keys,
                 roads,
             }),
             None => unreachable!(),
@@ -83,33 +90,35 @@ impl Traveller {
         self.is_current
     }
 
-    /// Follows a change that is not a recycling. `world` is the world after the change. The only error is out of
-    /// memory; then nothing is known of the traveller but its player.
+    /// Follows a change. `world` is the world after the change. The only error is out of memory; then nothing is known
+    /// of the traveller but its player.
     pub fn follow(&mut self, world: &World, change: &Change) -> Result<(), AllocError>
         ensures player { self.new.player ≡ self.old.player }
         ensures current { OnOk result (self.new.current ≡ (self.old.current && keeps_locks change.now.deed)) }
         ensures follower { (was : State) → IsSound was → IsFollower was self.old
-            → IsTrue (keeps_exits change.now.deed) → world.now ≡ step_or_same was change.now
-            → OnOk result (IsFollower world.now self.new) }
+            → world.now ≡ step_or_same was change.now → OnOk result (IsFollower world.now self.new) }
     {
         self.heed(change);
         self.move_along(world);
-        self.take_cost(world, change);
+        self.adjust(world, change);
+        self.follow_keys(world, change)?;
         self.grow(world)
     }
 
     /// Makes the traveller current. It looks at each exit again only if something was opened or closed. The only error
     /// is out of memory; the traveller stays as it was then.
     pub fn refresh(&mut self, alloc: Global, world: &World) -> Result<(), AllocError>
+        requires { IsFollower world.now self.old }
         ensures player { self.new.player ≡ self.old.player }
         ensures current { OnOk result (IsTrue self.new.current) }
-        ensures traveller { IsFollower world.now self.old → OnOk result (IsTraveller world.now self.new) }
+        ensures traveller { OnOk result (IsTraveller world.now self.new) }
+        ensures keys { self.new.keys ≡ self.old.keys }
         ensures err { OnErr result (self.new ≡ self.old) }
     {
         if self.is_current {
             return Ok(());
         }
-        let access = Access::of(alloc, world, self.access.player)?;
+        let access = Access::of(alloc, world, &self.keys, self.access.player)?;
         if !self.access.has_marks_of(&access) {
             self.roads = access.roads(alloc, world)?;
         }
@@ -134,20 +143,52 @@ impl Traveller {
         }
     }
 
-    // Takes over the cost of an exit, if the change sets one.
-    fn take_cost(&mut self, world: &World, change: &Change)
-        ensures { self.new ≡ recosted world.now change.now.deed self.old }
+    // Takes over the cost of an exit, or drops an object, if the change sets the one or recycles the other.
+    fn adjust(&mut self, world: &World, change: &Change)
+        ensures { self.new ≡ adjusted world.now change.now.deed self.old }
     {
-        if let Deed::Cost { exit, .. } = &change.deed {
-            if let Some(passage) = world.passage(*exit) {
-                self.roads.set_cost(*exit, passage.cost);
-            }
+        match &change.deed {
+            Deed::Cost { exit, .. } => self.take_cost(world, *exit),
+            Deed::Recycle { object } => self.drop_object(world, *object),
+            _ => {}
         }
+    }
+
+    // Takes over the cost that an exit has.
+    fn take_cost(&mut self, world: &World, exit: u32)
+        ensures { self.new ≡ option_map_or
+            (λ a. record self.old { rows = map (map (costing exit a.cost)) self.old.rows }) (passage_of world.now exit)
+            self.old }
+    {
+        if let Some(passage) = world.passage(exit) {
+            self.roads.set_cost(exit, passage.cost);
+        }
+    }
+
+    // Drops an object, if it is gone.
+    fn drop_object(&mut self, world: &World, object: u32)
+        ensures { self.new ≡ (if exists world.now object then self.old else forgetting object self.old) }
+    {
+        if !world.exists(object) {
+            self.access.unmark(object);
+            self.roads.remove(object);
+        }
+    }
+
+    // Has the index of keys follow a change. An error leaves the player as it was.
+    fn follow_keys(&mut self, world: &World, change: &Change) -> Result<(), AllocError>
+        ensures player { self.new.player ≡ self.old.player }
+        ensures rest { OnOk result (self.new ≡ record self.old { keys = self.new.keys }) }
+        ensures keys { (was : State) → IsSound was → IsKeyIndex was self.old.keys
+            → world.now ≡ step_or_same was change.now → OnOk result (IsKeyIndex world.now self.new.keys) }
+    {
+        self.keys.follow(world, change)
     }
 
     // Learns of the objects that the world has beyond the marked ones. An error leaves the player as it was.
     fn grow(&mut self, world: &World) -> Result<(), AllocError>
         ensures player { self.new.player ≡ self.old.player }
+        ensures keys { self.new.keys ≡ self.old.keys }
         ensures grown { OnOk result (IsGrown world.now self.old self.new) }
     {
         let known = self.access.count();

@@ -51,7 +51,7 @@ begun rooms ts = map (begun_at rooms) ts
 
 -- the default past the end of a list of members
 abbrev nobody : Knowledge
-nobody = knowledge_of 0 0 false [] []
+nobody = knowledge_of 0 0 false ([], []) [] []
 
 member-of : (ts : List Knowledge) (m : ℕ) → m < length ts → (t : Knowledge) × (slice_get ts m ≡ Some t)
 member-of ts m h = (get_or ts m nobody, slice_get-get_or ts m nobody h)

@@ -7,7 +7,6 @@
 #![tactic(auto)]
 
 #[cfg(test)]
-mod client;
 #[cfg(test)]
 mod crashes;
 mod disk;

@@ -33,6 +33,7 @@ pub mod Levels
 pub mod Nested
 pub mod Least
 pub mod Sounding
+pub mod KeyIndexes
 pub mod Histories
 pub mod Players
 pub mod Owned

@@ -13,6 +13,7 @@ pub mod Numbers
 pub mod FirstFailure
 pub mod Nesting
 pub mod Laws
+pub mod KeyIndex
 pub mod Memory
 pub mod History
 pub mod DeedParts

@@ -10,8 +10,8 @@
 //! | `contents`, `player_named` | the objects inside it; the player with a name |
 //! | `leaving`, `arriving` | the exits that leave it; the exits that lead to it |
 //! | `holds`, `carried`, `in_reach` | containment; everything inside an object; what an actor reaches |
-//! | `unlocked` | whether an object is unlocked for a holder |
-//! | `judge` | the same for all objects at once |
+//! | `unlocked`, `is_unlocked` | whether an object is unlocked for a holder, or for the holder with a number |
+//! | `judge` | the same for all objects at once, with an index of the keys (`KeyIndex`) |
 //! | `legal` | the refusal with the least number, or none |
 //! | `apply` | the world after a legal change |
 //! | `copy` | an equal world |
@@ -35,6 +35,7 @@ mod change;
 mod dig;
 mod holding;
 mod judged;
+mod key_index;
 pub mod laws;
 mod legal;
 pub mod limits;
@@ -53,6 +54,7 @@ mod world;
 
 pub use change::{Change, Deed, Doors, Target};
 pub use holding::Holding;
+pub use key_index::KeyIndex;
 pub use limits::MOST_COST;
 pub use mud_key::limits::LAST_NUMBER;
 pub use record::{Kind, Passage, Record};

@@ -1,11 +1,12 @@
--- The parts of following a change: the cost of an exit, and the objects that are new.
-use Rattle.std.specs.Prelude.{◌≡◌, ℕ, ◌+◌, ◌-◌, ◌<◌, Bool, false, ◌&&◌, List, [], ◌++◌, length, map, slice_index_or}
-use Rattle.std.specs.Prelude.{if◌then◌else◌, Option, Some, None}
+-- The parts of following a change: the cost of an exit, an object that is gone, and the objects that are new.
+use Rattle.std.specs.Prelude.{◌≡◌, ℕ, ◌+◌, ◌-◌, ◌<◌, Bool, false, not, ◌&&◌, nat_eq, List, [], ◌++◌, length, map}
+use Rattle.std.specs.Prelude.{filter}
+use Rattle.std.specs.Prelude.{slice_index_or, slice_set, if◌then◌else◌, Option, Some, None}
 use Rattle.std.specs.Option.{option_map_or}
 use Rattle.std.specs.List.{filter_map, range_with_len}
 use Rattle.mud_world.specs.declared.change.Deed.{Deed}
-use Rattle.mud_world.specs.declared.change.Deed.TheVariants.{Cost}
-use Rattle.mud_world.specs.State.{State, is_number, passage_of, source_of, unlocked}
+use Rattle.mud_world.specs.declared.change.Deed.TheVariants.{Cost, Recycle}
+use Rattle.mud_world.specs.State.{State, exists, is_number, passage_of, source_of, unlocked}
 use Rattle.mud_roads.specs.declared.label.Step.{Step}
 use Rattle.mud_roads.specs.Passable.{Knowledge, keeps_locks, tested_step}
 use Rattle.mud_roads.specs.inner.Tables.{costing}
@@ -19,11 +20,18 @@ abbrev pub moved_to : Knowledge → Option ℕ → Knowledge
 moved_to t (Some place) = record t { place = place }
 moved_to t None = t
 
--- after a deed that sets the cost of an exit, the steps of this exit have the cost that it has in the world
-abbrev pub recosted : State → Deed → Knowledge → Knowledge
-recosted w (Cost exit cost) t =
+-- the traveller without the mark and the steps of object n
+abbrev pub forgetting : ℕ → Knowledge → Knowledge
+forgetting n t =
+    record t { marks = slice_set t.marks n false; rows = map (filter (λ s. not (nat_eq n s.exit))) t.rows }
+
+-- a deed that sets the cost of an exit gives its steps the cost that it has in the world, and one that removes an
+-- object takes its mark and its steps
+abbrev pub adjusted : State → Deed → Knowledge → Knowledge
+adjusted w (Cost exit cost) t =
     option_map_or (λ a. record t { rows = map (map (costing exit a.cost)) t.rows }) (passage_of w exit) t
-recosted w deed t = t
+adjusted w (Recycle object) t = if exists w object then t else forgetting object t
+adjusted w deed t = t
 
 -- the step of exit x, if x and its destination pass a test, and x leaves the room
 abbrev pub step_from : State → (ℕ → Bool) → ℕ → ℕ → Option Step

@@ -9,7 +9,7 @@ use Rattle.mud_guide.proofs.leg.legs_to.Goals as goal
 
 pub loop-member-preserved : goal.loop-member-preserved
 loop-member-preserved c =
-    let nobody : Knowledge = knowledge_of 0 0 false [] [] in
+    let nobody : Knowledge = knowledge_of 0 0 false ([], []) [] [] in
     let m = c.loop-member.member in
     let ts = c.args.travellers.now in
     let R : Knowledge → Leg → Type 0 = λ t j. IsLeg c.args.world.now c.args.to t.player j in

@@ -11,13 +11,13 @@ use Rattle.mud_world.proofs.world.World.judge_more.Goals as goal
 
 pub returns-clause-answers : goal.returns-clause-answers
 returns-clause-answers c = λ o.
-    let plain = c.args.plain.now in
+    let index = c.args.index.now in
     let test = key_true (λ a. list_any (nat_eq a) c.args.holding.now) (λ o. get_or c.args.before.now o false) in
     let new = λ (k : ℕ). has c.args.self.now k (λ r. option_map_or test r.key true) in
     let answers = c.loop-object.answers.items in
-    let done : answers_with new plain.locked.items plain.answers.items ≡ answers =
+    let done : answers_with new index.1 index.0 ≡ answers =
     sym c.loop-object.invariant
     ∙ ap (λ (left : List ℕ). answers_with new left answers)
-    (drop_all c.loop-object.object-index plain.locked.items (omega (arith, c.loop-object-test.false))) in
+    (drop_all c.loop-object.object-index c.keyed-object-items.result.now (omega (arith, c.loop-object-test.false))) in
     sym (ap (λ l. get_or l o false) done)
-    ∙ written-anew c.args.self.now c.know_sound.ensures plain.answers.items plain.locked.items c.requires test o
+    ∙ written-anew c.args.self.now c.know_sound.ensures index.0 index.1 c.requires test o

@@ -14,5 +14,5 @@ invariant-loop-object l =
     λ (k : ℕ). has l.self k
     (λ r. option_map_or (key_true (λ a. list_any (nat_eq a) l.holding) (λ o. get_or l.before o false)) r.key true)
     in
-    answers_with new (drop l.object-index l.plain.locked.items) l.answers.items
-    ≡ answers_with new l.plain.locked.items l.plain.answers.items
+    answers_with new (drop l.object-index l.object-items) l.answers.items
+    ≡ answers_with new l.index.1 l.index.0

@@ -6,11 +6,11 @@ use Rattle.mud_world.specs.State.{has, record_at}
 use Rattle.mud_world.proofs.Records.{bool_cases}
 use Rattle.mud_world.proofs.Carrying.{has-above, get_or-past, missing-above}
 use Rattle.mud_world.proofs.Written.{keyless-key}
-use Rattle.mud_world.proofs.world.World.judge_plain.Goals as goal
+use Rattle.mud_world.proofs.key_index.KeyIndex.of.Goals as goal
 
 pub returns : goal.returns
 returns c =
-    let w = c.args.self.now in
+    let w = c.args.world.now in
     let next = c.next_number-next.ensures.next in
     let sound = c.next_number-next.ensures.sound in
     let inv = c.loop-object.invariant in
@@ -21,7 +21,7 @@ returns c =
       plain = λ o.
           ⊎_elim
           (λ (lt : o < c.loop-object.object). inv.1 o lt)
-          (λ (le : c.loop-object.object ≤ o). get_or-past c.loop-object.answers.items o (omega (arith, le, long))
+          (λ (le : c.loop-object.object ≤ o). get_or-past c.loop-object.keyless.items o (omega (arith, le, long))
           ∙ sym (has-above w sound o (omega (arith, le, next, done)) _))
           (cases_lt o c.loop-object.object);
       keyless = λ o none.

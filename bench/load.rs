@@ -63,6 +63,11 @@ impl Dialect {
         }
     }
 
+    /// Returns whether the server sends no more before its last text is acknowledged: it leaves Nagle's algorithm on.
+    fn waits_for_acknowledgements(self) -> bool {
+        self == Dialect::Mux
+    }
+
     /// Returns a line of the round that says nothing.
     fn spelled(self, line: &str) -> &str {
         match (line, self) {
@@ -273,7 +278,7 @@ impl Client {
         self.send(&format!("say {SAID}{number}"))
     }
 
-    /// Acknowledges input at once: a server may wait for that before it sends more.
+    /// Acknowledges input at once.
     fn hurry(&self) {
         // SAFETY: the value is read during the call, and has the given length.
         unsafe { setsockopt(self.stream.as_raw_fd(), IPPROTO_TCP, TCP_QUICKACK, &1, 4) };
@@ -282,7 +287,9 @@ impl Client {
     /// Reads more; waits for some bytes.
     fn read(&mut self) -> io::Result<()> {
         self.inbox.read(&mut self.stream, self.dialect)?;
-        self.hurry();
+        if self.dialect.waits_for_acknowledgements() {
+            self.hurry();
+        }
         Ok(())
     }
 

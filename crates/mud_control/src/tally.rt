@@ -133,10 +133,12 @@ impl Tally {
         self.note_changes(changes);
     }
 
-    /// Records that the volume with this number goes on, or begins, with this many changes.
+    /// Records that the volume with this number goes on, or begins, with this many changes. Its journal has noted no
+    /// sync yet.
     pub fn begin_volume(&self, volume: u32, changes: u64) {
         self.volume.store(u64::from(volume), Ordering::Relaxed);
         self.changes.store(changes, Ordering::Relaxed);
+        self.synced.store(0, Ordering::Relaxed);
     }
 
     /// Counts a turn to the next volume, with its pause.
@@ -167,9 +169,9 @@ impl Tally {
         self.objects.fetch_add(new, Ordering::Relaxed);
     }
 
-    /// Records that the journal has synced this many changes.
+    /// Records that the volume's journal has synced at least this many changes.
     pub fn note_synced(&self, changes: u64) {
-        self.synced.store(changes, Ordering::Relaxed);
+        self.synced.fetch_max(changes, Ordering::Relaxed);
     }
 
     /// Records that the journal has failed.

@@ -1,5 +1,7 @@
 //! Reads the files of histories and journals.
 
+ghost use Rattle.std.specs.Prelude.{◌≡◌, ◌≤◌, IfOk, length, take};
+
 use crate::unloaded::Unloaded;
 use mud_chron::{Entry, before_zero, read_front, read_history};
 use std::fs;
@@ -33,4 +35,25 @@ pub fn load_journal<R: Files + AllocGlobal>(
         Ok(front) => Ok((front.entries, text.len() - front.keep)),
         Err(fault) => Err(Unloaded::of_text(fault)),
     }
+}
+
+/// Returns the entries that a world with a journal continues: those of the journal, or those of the history in the file
+/// with this name if the journal is empty. Without a name they are those of the journal.
+///
+/// Errors: `NotEmpty` if there are a name and entries of a journal, else those of [`load`].
+pub fn entries_to_continue<R: Files + AllocGlobal>(
+    rt: &R,
+    name: Option<&str>,
+    journal: Vec<Entry>,
+) -> Result<Vec<Entry>, Unloaded>
+    ensures front { IfOk result (λ v. take (length journal.items) v.items ≡ journal.items) }
+    ensures within { IfOk result (λ v. length journal.items ≤ length v.items) }
+{
+    let Some(name) = name else {
+        return Ok(journal);
+    };
+    if !journal.is_empty() {
+        return Err(Unloaded::NotEmpty);
+    }
+    load(rt, name)
 }

@@ -29,6 +29,9 @@ pub enum Unloaded {
     /// The text ends before its last line does.
     #[error("history without end")]
     NoEnd,
+    /// A history was to be loaded, and the journal already has one.
+    #[error("journal is not empty")]
+    NotEmpty,
     /// The hall has room for fewer entries.
     #[error("over capacity")]
     OverCapacity,

@@ -8,6 +8,7 @@ ghost use Rattle.mud_chron.specs.Text.{journal_text};
 use crate::disk::{Appends, Disk, DiskFault};
 use crate::fault::OpenFault;
 use crate::journal::Found;
+use crate::names::NamedFiles;
 use crate::recovery::found_in;
 use mud_chron::Entry;
 use std::fs::{self, File, Metadata, OpenOptions, TryLockError};
@@ -24,7 +25,7 @@ const MOST_BYTES: u64 = 134_217_728;
 
 /// The file of a journal by its name, locked by this process.
 #[derive(Drop)]
-pub struct JournalFile<'r, R: Files<File = File>> {
+pub struct JournalFile<'r, R: NamedFiles> {
     rt: &'r R,
     file: File,
     // The name is not a symbolic link.
@@ -98,14 +99,6 @@ fn is_named<R: Files<File = File>>(rt: &R, file: &File, name: &str) -> io::Resul
     Ok(named.dev() == opened.dev() && named.ino() == opened.ino())
 }
 
-// Removes a file if it exists.
-fn remove(rt: &impl Files, name: &str) -> io::Result<()> {
-    match fs::remove_file(rt, name) {
-        Err(error) if error.kind() != ErrorKind::NotFound => Err(error),
-        _ => Ok(()),
-    }
-}
-
 // Gives a new file the mode of an old one, and its owner if this process is allowed to.
 fn take_after(old: &File, new: &File) -> io::Result<()> {
     let about = old.metadata()?;
@@ -127,39 +120,35 @@ impl<'r, R: Files<File = File> + AllocGlobal> JournalFile<'r, R> {
     }
 }
 
-impl<R: Files<File = File>> JournalFile<'_, R> {
+impl<R: NamedFiles> JournalFile<'_, R> {
     // Writes these bytes to a temporary file, locks it as the old one is, syncs it, and renames it to the journal's
     // name.
     fn write_beside(&self, bytes: &[u8]) -> io::Result<File> {
         let (rt, beside) = (self.rt, self.beside.as_str());
-        remove(rt, beside)?;
-        let mut new = OpenOptions::new()
-            .append(true)
-            .create_new(true)
-            .mode(NEW_MODE)
-            .open(rt, beside)?;
+        rt.remove(beside)?;
+        let mut new = rt.create_new(beside)?;
         take_after(&self.file, &new)?;
         new.try_lock()?;
         new.write_all(bytes)?;
         new.sync_all()?;
-        fs::rename(rt, beside, self.name.as_str())?;
+        rt.rename(beside, self.name.as_str())?;
         Ok(new)
     }
 
     // Waits until the name of the file is durable.
     fn sync_name(&self) -> io::Result<()> {
-        File::open(self.rt, folder(self.name.as_str()))?.sync_all()
+        self.rt.sync_folder(folder(self.name.as_str()))
     }
 }
 
-impl<R: Files<File = File>> Read for JournalFile<'_, R> {
+impl<R: NamedFiles> Read for JournalFile<'_, R> {
     fn read(&mut self, buf: &mut [u8]) -> io::Result<usize> {
         self.file.read(buf)
     }
 }
 
 /// A file of the operating system. Nothing is claimed about its contents.
-impl<R: Files<File = File>> Appends for JournalFile<'_, R> {
+impl<R: NamedFiles> Appends for JournalFile<'_, R> {
     ghost use Rattle.std.specs.Prelude.{None};
     ghost use Rattle.mud_journal.specs.Crash.{AreAny};
 
@@ -184,12 +173,12 @@ impl<R: Files<File = File>> Appends for JournalFile<'_, R> {
     }
 }
 
-impl<R: Files<File = File>> Disk for JournalFile<'_, R> {
+impl<R: NamedFiles> Disk for JournalFile<'_, R> {
     fn replace(&mut self, bytes: &[u8]) -> Result<(), DiskFault> {
         match self.write_beside(bytes) {
             Ok(new) => self.file = new,
             Err(error) => {
-                let _ = remove(self.rt, self.beside.as_str());
+                let _ = self.rt.remove(self.beside.as_str());
                 return Err(DiskFault::of(&error));
             }
         }

@@ -2,11 +2,13 @@
 
 ghost use Rattle.mud_cli.specs.Service.{AreWithin};
 
-use crate::serving::{doors, go_on_from, load_entries, tell_torn};
+use crate::serving::{doors, load_entries, tell_torn};
 use crate::stop::Stop;
 use mud_chron::Entry;
 use mud_cli::{ChosenRates, Listening, version};
+use mud_history_file::entries_to_continue;
 use mud_host::{HostFault, bind, read_bans};
+use mud_journal::NamedFiles;
 use mud_server_volume::try_entries;
 use mud_shelf::{Shelf, find_volume, folder_of, latest_volume};
 use std::fs::File;
@@ -98,7 +100,7 @@ fn say_files<R: Print>(rt: &R, listening: Listening<'_>) -> Result<(), Stop> {
 }
 
 // Returns the entries that a server would continue: those of the last volume. It does not make a journal.
-fn entries_of<R: Runtime + Files<File = File> + AllocGlobal>(
+fn entries_of<R: Runtime + Files<File = File> + NamedFiles + AllocGlobal + Sync>(
     rt: &R,
     listening: Listening<'_>,
 ) -> Result<Vec<Entry>, Stop> {
@@ -114,14 +116,19 @@ fn entries_of<R: Runtime + Files<File = File> + AllocGlobal>(
     }
     let found = find_volume(rt.alloc(), &folder, journal).map_err(Stop::of_opening)?;
     tell_torn(rt, found.torn);
-    go_on_from(rt, listening.load, found.entries)
+    entries_to_continue(rt, listening.load, found.entries).map_err(Stop::of_load)
 }
 
 /// Prints what a server would do. It reads the files and binds the ports, but changes nothing. The last line is the
 /// number of changes that the server would continue.
 pub(crate) fn check<R>(rt: &R, listening: Listening<'_>) -> Result<(), Stop>
 where
-    R: Runtime + Files<File = File> + AllocGlobal + Net<Listener = TcpListener, Stream = TcpStream>,
+    R: Runtime
+        + Files<File = File>
+        + NamedFiles
+        + AllocGlobal
+        + Sync
+        + Net<Listener = TcpListener, Stream = TcpStream>,
     requires { AreWithin listening.limits }
 {
     say(rt, "version", version())?;

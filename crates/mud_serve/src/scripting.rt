@@ -46,26 +46,13 @@ fn answer_alone<R: Runtime + AllocGlobal + Threads + Wait + Sync>(
 {
     let mut source = Source::new(rt.reader());
     let mut sink = Sink::new(io::writer(rt));
-    match script(
-        rt,
-        rt.alloc(),
-        &mut source,
-        &mut sink,
-        script_limits(limits),
-    ) {
-        Ok(()) => Ok(()),
-        Err(fault) => Err(Stop::of_script(fault)),
-    }
-}
-
-// Returns the limits of a script.
-fn script_limits(limits: ChosenLimits) -> ScriptLimits
-    requires { AreWithin limits }
-    ensures { result.capacity ≤ MOST_ENTRIES }
-{
-    ScriptLimits {
+    let limits = ScriptLimits {
         capacity: limits.capacity,
         workers: limits.workers,
+    };
+    match script(rt, rt.alloc(), &mut source, &mut sink, limits) {
+        Ok(()) => Ok(()),
+        Err(fault) => Err(Stop::of_script(fault)),
     }
 }
 
@@ -117,14 +104,17 @@ fn answer_on<R: Runtime + AllocGlobal + Files<File = File> + Threads + Wait + Sy
 {
     let mut source = Source::new(rt.reader());
     let mut sink = Sink::new(io::writer(rt));
-    let limits = scripting.limits;
+    let limits = ScriptLimits {
+        capacity: scripting.limits.capacity,
+        workers: scripting.limits.workers,
+    };
     let word = scripting.player.unwrap_or(WIZARD);
     match script_on(
         rt,
         rt.alloc(),
         &mut source,
         &mut sink,
-        script_limits(limits),
+        limits,
         entries,
         word,
     ) {

@@ -1,6 +1,6 @@
 //! The services of the program.
 
-ghost use Rattle.std.specs.Prelude.{◌≡◌, ◌≤◌, IfOk, length, take};
+ghost use Rattle.std.specs.Prelude.{◌≡◌, ◌≤◌, length};
 ghost use Rattle.mud_world.specs.declared.limits.TheConstants.{MOST_ENTRIES};
 ghost use Rattle.mud_chron.specs.declared.format.Format.TheVariants.{Two};
 ghost use Rattle.mud_chron.specs.Text.{journal_text};
@@ -12,9 +12,10 @@ use log::{Log, info};
 use mud_chron::Entry;
 use mud_chron::limits::MOST_DESKS;
 use mud_cli::{Listening, WebListening};
-use mud_history_file::load;
+use mud_history_file::entries_to_continue;
 use mud_host::bind;
 use mud_io::Sink;
+use mud_journal::NamedFiles;
 use mud_page::PAGE;
 use mud_server::{FirstVolume, Volumes, listen_volumes};
 use mud_server_volume::{Doors, Hosting, Site, WebDoor, listen_on};
@@ -28,37 +29,15 @@ use std::sync::Wait;
 use std::thread::Threads;
 use std::time::Clock;
 
-// Returns the entries that a world continues.
+/// Returns the entries that a world without a journal, or with an empty one, continues.
 pub(crate) fn load_entries<R: Runtime + AllocGlobal>(
     rt: &R,
     file: Option<&str>,
 ) -> Result<Vec<Entry>, Stop> {
-    match file {
-        None => Ok(Vec::new(rt.alloc())),
-        Some(name) => match load(rt, name) {
-            Ok(entries) => Ok(entries),
-            Err(fault) => Err(Stop::of_load(fault)),
-        },
+    match entries_to_continue(rt, file, Vec::new(rt.alloc())) {
+        Ok(entries) => Ok(entries),
+        Err(fault) => Err(Stop::of_load(fault)),
     }
-}
-
-/// Returns the entries that a world with a journal continues: those of the journal, or those of the file if the journal
-/// is empty.
-pub(crate) fn go_on_from<R: Runtime + AllocGlobal>(
-    rt: &R,
-    file: Option<&str>,
-    had: Vec<Entry>,
-) -> Result<Vec<Entry>, Stop>
-    ensures front { IfOk result (λ v. take (length had.items) v.items ≡ had.items) }
-    ensures within { IfOk result (λ v. length had.items ≤ length v.items) }
-{
-    if file.is_none() {
-        return Ok(had);
-    }
-    if !had.is_empty() {
-        return Err(Stop::NotEmpty);
-    }
-    load_entries(rt, file)
 }
 
 /// Prints how many bytes at the end of the journal are no whole line.
@@ -114,6 +93,7 @@ pub(crate) fn listen<
     R: Runtime
         + AllocGlobal
         + Files<File = File>
+        + NamedFiles
         + Threads
         + Wait
         + Log
@@ -176,6 +156,7 @@ fn keep_journal<
     R: Runtime
         + AllocGlobal
         + Files<File = File>
+        + NamedFiles
         + Threads
         + Wait
         + Log
@@ -243,7 +224,10 @@ fn keep_volumes<
     tell_torn(rt, torn);
     let changes = had.len();
     info!(rt; "journal volume={number} changes={changes} torn={torn}");
-    let loaded = go_on_from(rt, listening.load, had)?;
+    let loaded = match entries_to_continue(rt, listening.load, had) {
+        Ok(loaded) => loaded,
+        Err(fault) => return Err(Stop::of_load(fault)),
+    };
     let doors = doors(rt, listening)?;
     log_doors(rt, &doors);
     let mut sink = Sink::new(io::writer(rt));

@@ -116,6 +116,7 @@ impl Stop {
     pub(crate) fn of_load(fault: Unloaded) -> Stop {
         match fault {
             Unloaded::OutOfMemory => Stop::OutOfMemory,
+            Unloaded::NotEmpty => Stop::NotEmpty,
             fault => Stop::Load(fault),
         }
     }

@@ -257,7 +257,7 @@ fn turn_from<S: Shelf, D: Disk + Drop, R: Wait + Log>(
 }
 
 // Serves a volume until the server ends or turns.
-fn serve_once<D: Disk + Drop, R: Threads + Wait + Log + Clock + Sync>(
+fn serve_once<D: Disk + Drop + Send, R: Threads + Wait + Log + Clock + Sync>(
     rt: &R,
     alloc: Global,
     terms: Terms<'_>,
@@ -302,7 +302,7 @@ fn serve_once<D: Disk + Drop, R: Threads + Wait + Log + Clock + Sync>(
 }
 
 // Serves a volume, and again after each turn that is called off, until the server ends or the next volume begins.
-fn serve_until_turn<S: Shelf, D: Disk + Drop, R: Threads + Wait + Log + Clock + Sync>(
+fn serve_until_turn<S: Shelf, D: Disk + Drop + Send, R: Threads + Wait + Log + Clock + Sync>(
     rt: &R,
     alloc: Global,
     volumes: &mut Volumes<'_, S>,
@@ -400,7 +400,7 @@ fn finish<D: Disk + Drop, W: Write>(
 }
 
 // Serves the first volume and all that follow, and writes the history of the last one.
-fn serve_volumes<S: Shelf, D: Disk + Drop, R: Threads + Wait + Log + Clock + Sync, W: Write>(
+fn serve_volumes<S: Shelf, D: Disk + Drop + Send, R: Threads + Wait + Log + Clock + Sync, W: Write>(
     rt: &R,
     alloc: Global,
     volumes: &mut Volumes<'_, S>,

@@ -9,6 +9,7 @@ ghost use Rattle.mud_journal.specs.Disk.{Holds};
 ghost use Rattle.mud_server_end.specs.Server.{MayEnd, IsInnerFault};
 
 use crate::fault::ServerFault;
+use crate::group::GroupCommit;
 use crate::writer::JournalWriter;
 use mud_chron::ChronFault;
 use mud_hall::{CloseFault, Desk, Hall, HallName};
@@ -43,9 +44,8 @@ pub fn settle<J: HallName, R: Wait>(
     }
 }
 
-/// Writes the remaining entries to the journal, and settles the hall. The journal then has its whole history, and can
-/// take further entries.
-pub fn settle_journaled<J: HallName, D: Disk + Drop, R: Wait>(
+// Writes the remaining entries to the journal, and settles the hall.
+fn settle_journaled<J: HallName, D: Disk + Drop, R: Wait>(
     rt: &R,
     alloc: Global,
     limits: Limits,
@@ -70,6 +70,28 @@ pub fn settle_journaled<J: HallName, D: Disk + Drop, R: Wait>(
         return Err(ServerFault::Journal(JournalFault::Mismatch));
     }
     Ok((history, writer.into_journal()))
+}
+
+/// Writes the remaining entries to the journal that the sessions wrote, and settles the hall. The journal then has its
+/// whole history, and can take further entries. If it has failed before, its fault is returned.
+pub fn settle_group<J: HallName, D: Disk + Drop, R: Wait>(
+    rt: &R,
+    alloc: Global,
+    limits: Limits,
+    hall: Hall<J>,
+    desks: Vec<Desk<J>>,
+    group: GroupCommit<J, D>,
+) -> Result<(History, Journal<Nameless, D>), ServerFault>
+    requires few { length desks.items ≤ limits.sessions }
+    requires capacity { limits.capacity ≤ MOST_ENTRIES }
+    ensures ends { IfOk result (λ s. MayEnd limits J.loaded s.0) }
+    ensures journaled { IfOk result (λ s. Holds (D.kept s.1.disk) s.0) }
+    ensures count { IfOk result (λ s. s.1.count ≡ length s.0) }
+    ensures going { IfOk result (λ s. s.1.has_failed ≡ false) }
+    ensures fault { IfErr result IsInnerFault }
+{
+    let writer = group.into_writer()?;
+    settle_journaled(rt, alloc, limits, hall, desks, writer)
 }
 
 // Returns the reason why the desks made no history.

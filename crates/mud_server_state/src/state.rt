@@ -1,15 +1,16 @@
 //! The shared state: the hall, and the places for its sessions.
 
-ghost use Rattle.std.specs.Prelude.{◌≡◌, ◌≤◌, IfOk, length};
+ghost use Rattle.std.specs.Prelude.{◌≡◌, ◌≤◌, IfOk, IfSome, false, length};
 ghost use Rattle.mud_search.specs.declared.limits.TheConstants.{MOST_WORKERS};
 
+use crate::commits::Commits;
 use crate::limits::Limits;
 use crate::lobby::Lobby;
 use crate::place::{NoPlace, Place};
 use log::{Log, warn};
 use mud_control::{Control, host_of};
 use mud_hall::{Desk, Fault, Hall, HallName};
-use mud_journal::Gate;
+use mud_journal::Receipt;
 use mud_socket::Ending;
 use std::alloc::{AllocError, Global};
 use std::net::IpAddr;
@@ -34,8 +35,8 @@ pub struct Places<J: HallName> {
 
 /// The state that all threads of a server share.
 ///
-/// There is one instance, `StateOf` of `mud_server_threads`. The hall, the places and the gate are type parameters,
-/// because the prover finds that threads may share the state only by a lemma about its parts.
+/// `StateOf` of `mud_server_threads` has its types. The hall, the places and the gate are type parameters, because the
+/// prover finds that threads may share the state only by a lemma about its parts.
 #[derive(Drop)]
 pub struct ServerState<H, P, G> {
     pub hall: H,
@@ -153,7 +154,7 @@ impl<H, P, G> ServerState<H, P, G> {
     }
 }
 
-impl<H, P, J> ServerState<H, P, Gate<J>> {
+impl<J: HallName, G: Commits<J>> ServerState<Hall<J>, Places<J>, G> {
     /// Returns the reason why all sessions should end, if they should.
     pub fn ending(&self) -> Option<Ending> {
         if self.gate.has_failed() {
@@ -170,18 +171,16 @@ impl<H, P, J> ServerState<H, P, Gate<J>> {
         let synced = self.gate.synced_count() as u64;
         self.control.tally.note_synced(synced);
     }
-}
 
-impl<J: HallName> ServerState<Hall<J>, Places<J>, Gate<J>> {
     /// Returns the state of a new server, with as many free places as there may be sessions.
     pub fn new(
         alloc: Global,
         hall: Hall<J>,
         limits: Limits,
-        gate: Gate<J>,
+        gate: G,
         lobby: Lobby,
         control: Arc<Control>,
-    ) -> Result<ServerState<Hall<J>, Places<J>, Gate<J>>, AllocError>
+    ) -> Result<ServerState<Hall<J>, Places<J>, G>, AllocError>
         requires { limits.workers ≤ MOST_WORKERS }
         ensures { IfOk result (λ state. length state.places.list.items ≡ limits.sessions) }
     {
@@ -306,23 +305,34 @@ impl<J: HallName> ServerState<Hall<J>, Places<J>, Gate<J>> {
         true
     }
 
-    /// Announces at the time `now` that the hall has at least this many entries, the last one by the session at this
-    /// place. With a journal the writing thread wakes the others once those entries are synced; without one they are
-    /// woken here.
-    pub fn announce_change<R: Wait>(&self, rt: &R, at: usize, version: usize, now: Duration) {
-        if self.gate.is_open() {
-            self.wake_hearers(rt, Some(at), now);
-        } else {
-            self.gate.want(rt, version);
+    /// Makes this many entries of the hall durable, or waits until another thread has done so. Returns no receipt if
+    /// the journal fails before that: then it tells the host, and wakes all notice threads, so that all sessions end.
+    /// The receipt is free only if there is no journal.
+    pub fn commit<R: Wait>(&self, rt: &R, version: usize) -> Option<Receipt<J>>
+        ensures up_to { IfSome result (λ r. version ≤ r.up_to) }
+        ensures of_journal { G.lacks_journal self.now.gate ≡ false → IfSome result (λ r. r.is_free ≡ false) }
+    {
+        let receipt = self.gate.commit(rt, &self.hall, version);
+        if receipt.is_none() {
+            self.control.tally.note_failure();
+            self.control.roster.wake_all(rt);
         }
+        receipt
     }
 
-    /// Wakes the notice threads of all sessions but the one at the place `speaker`. It wakes no thread that leaves the
-    /// notices to the replies of a player who is typing.
-    pub fn wake_hearers<R: Wait>(&self, rt: &R, speaker: Option<usize>, now: Duration) {
+    /// Announces at the time `now` that the hall has at least this many entries, the last one by the session at this
+    /// place. With a journal it makes them durable first. Then it wakes the notice threads of all other sessions, but
+    /// no thread that leaves the notices to the replies of a player who is typing.
+    pub fn announce_change<R: Wait>(&self, rt: &R, at: usize, version: usize, now: Duration) {
+        if self.commit(rt, version).is_none() {
+            return;
+        }
+        if !self.gate.is_open() {
+            self.note_synced();
+        }
         self.control
             .roster
-            .wake_hearers(rt, speaker, now, self.typing_time());
+            .wake_hearers(rt, Some(at), now, self.typing_time());
     }
 
     /// Stores the desk of a session that has ended, for another session.
@@ -341,8 +351,8 @@ impl<J: HallName> ServerState<Hall<J>, Places<J>, Gate<J>> {
         }
     }
 
-    /// Returns the hall, the stored desks, and the lobby.
-    pub fn into_parts(self, alloc: Global) -> Result<(Hall<J>, Vec<Desk<J>>, Lobby), AllocError>
+    /// Returns the hall, the stored desks, the lobby, and the gate.
+    pub fn into_parts(self, alloc: Global) -> Result<(Hall<J>, Vec<Desk<J>>, Lobby, G), AllocError>
         ensures { IfOk result (λ parts. length parts.1.items ≤ length self.places.list.items) }
     {
         let ServerState {
@@ -351,7 +361,7 @@ impl<J: HallName> ServerState<Hall<J>, Places<J>, Gate<J>> {
             control: _,
             lobby,
             limits: _,
-            gate: _,
+            gate,
             choosing: _,
             taken: _,
             players: _,
@@ -367,6 +377,6 @@ impl<J: HallName> ServerState<Hall<J>, Places<J>, Gate<J>> {
                 desks.push(desk)?;
             }
         }
-        Ok((hall, desks, lobby))
+        Ok((hall, desks, lobby, gate))
     }
 }

@@ -7,8 +7,6 @@ use Rattle.std.proofs.thread.Scope.TheSendSync as scope
 use Rattle.mud_hall.specs.contracts.hall.Hall as Hall
 use Rattle.mud_hall.specs.declared.name.HallName as HallName
 use Rattle.mud_hall.proofs.Crosses.{hall_sync}
-use Rattle.mud_journal.specs.contracts.gate.Gate as Gate
-use Rattle.mud_journal.proofs.Crosses.{gate_sync}
 use Rattle.mud_client.proofs.Crosses.{client_send}
 use Rattle.mud_server_state.proofs.Crosses.{places_sync}
 use Rattle.mud_server_state.proofs.state.ServerState.TheSendSync as state
@@ -25,9 +23,9 @@ use Rattle.mud_server_threads.specs.contracts.server.Post as Post
 use Rattle.mud_server_threads.specs.contracts.server.Server as Server
 
 -- a server's state, by its parts
-pub state_sync : (J : RattleType) (h : HallName.Ghosts J.Denot) → IsSend J → IsSync J
-    → IsSync (ServerState.the_row (Hall.the_row J h) (Places.the_row J h) (Gate.the_row J))
-state_sync J h s y = state.the_sync _ _ _ (hall_sync J h s y) (places_sync J h s) (gate_sync J y)
+pub state_sync : (J G : RattleType) (h : HallName.Ghosts J.Denot) → IsSend J → IsSync J → IsSync G
+    → IsSync (ServerState.the_row (Hall.the_row J h) (Places.the_row J h) G)
+state_sync J G h s y g = state.the_sync _ _ _ (hall_sync J h s y) (places_sync J h s) g
 
 pub connection_send : (J : RattleType) (h : HallName.Ghosts J.Denot) → IsSend J → IsSend (Connection.the_row J h)
 connection_send J h s = search (sendable, crosses, client_send) depth 40 fits 20000
@@ -49,6 +47,6 @@ pub quay_sync : IsSync Quay.the_row
 quay_sync = quay.the_sync
 
 -- the values that a thread of a server starts with
-pub server_send : (ℓ : NamedLft) (E J R : RattleType) (h : HallName.Ghosts J.Denot) → IsSend J → IsSync J → IsSync R
-    → IsSend (Server.the_row ℓ E J R h)
-server_send ℓ E J R h s y r = search (sendable, scope.the_sync, state_sync, quay_sync, crosses) depth 40 fits 20000
+pub server_send : (ℓ : NamedLft) (E J G R : RattleType) (h : HallName.Ghosts J.Denot) → IsSend J → IsSync J → IsSync G
+    → IsSync R → IsSend (Server.the_row ℓ E J G R h)
+server_send ℓ E J G R h s y g r = search (sendable, scope.the_sync, state_sync, quay_sync, crosses) depth 40 fits 20000

@@ -4,7 +4,7 @@
 use crate::server::{Begun, Server};
 use log::Log;
 use mud_hall::HallName;
-use mud_server_state::NoPlace;
+use mud_server_state::{Commits, NoPlace};
 use mud_socket::{Entrance, HeadReader, Heard, Socket, hear, refuse, set_up};
 use mud_web::Channel;
 use std::alloc::{AllocError, Global};
@@ -24,9 +24,10 @@ struct Caller {
     chair: u64,
 }
 
-impl<'s, E, J, R> Server<'s, E, J, R>
+impl<'s, E, J, G, R> Server<'s, E, J, G, R>
 where
     J: HallName + Send + Sync + 's,
+    G: Commits<J> + Sync + 's,
     R: Threads + Wait + Log + Clock + Sync + 's,
 {
     // Admits a browser to the place, and runs the reader thread of its session to its end.

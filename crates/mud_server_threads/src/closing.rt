@@ -3,6 +3,7 @@
 use crate::connection::StateOf;
 use mud_control::StopSign;
 use mud_hall::HallName;
+use mud_server_state::Commits;
 use mud_socket::{Ending, now, rest};
 use std::sync::Wait;
 use std::time::{Clock, Duration};
@@ -31,9 +32,9 @@ pub enum Remaining {
 }
 
 /// Waits a moment, and looks which sessions are left. If the stop flag is set, they should end.
-pub fn look_at_rest<J: HallName, R: Wait + Clock>(
+pub fn look_at_rest<J: HallName, G: Commits<J>, R: Wait + Clock>(
     rt: &R,
-    state: &StateOf<J>,
+    state: &StateOf<J, G>,
     stop: Option<&StopSign>,
 ) -> Remaining {
     state.control.tick(rt, now(rt));
@@ -55,13 +56,17 @@ pub fn look_at_rest<J: HallName, R: Wait + Clock>(
 
 // Returns whether no session is left, and no browser in the lobby can begin one: a browser takes its place before it
 // leaves the lobby.
-fn is_empty<J: HallName, R: Wait>(rt: &R, state: &StateOf<J>) -> bool {
+fn is_empty<J: HallName, G: Commits<J>, R: Wait>(rt: &R, state: &StateOf<J, G>) -> bool {
     state.lobby.is_empty() && state.is_empty(rt)
 }
 
 /// Waits five seconds until no session is left, and then shuts the sockets of the others, which ends the reads and
 /// writes of their threads.
-pub fn shut_late<J: HallName, R: Wait>(rt: &R, state: &StateOf<J>, ending: Ending) {
+pub fn shut_late<J: HallName, G: Commits<J>, R: Wait>(
+    rt: &R,
+    state: &StateOf<J, G>,
+    ending: Ending,
+) {
     for _ in 0..LAST_LOOKS {
         if is_empty(rt, state) {
             return;
@@ -74,7 +79,10 @@ pub fn shut_late<J: HallName, R: Wait>(rt: &R, state: &StateOf<J>, ending: Endin
 /// Makes all sessions rest, once no browser in the lobby can begin one any more. A browser has half a second to finish
 /// its request, while play goes on; then its socket is shut, and it has to ask again. Returns the time at which the
 /// sessions began to rest.
-pub fn begin_rest<J: HallName, R: Wait + Clock>(rt: &R, state: &StateOf<J>) -> Duration {
+pub fn begin_rest<J: HallName, G: Commits<J>, R: Wait + Clock>(
+    rt: &R,
+    state: &StateOf<J, G>,
+) -> Duration {
     for look in 0..u32::MAX {
         if state.lobby.is_empty() {
             break;

@@ -4,16 +4,16 @@ use crate::quay::Quay;
 use mud_client::{Client, End, Framing, Outgoing, RestingClient, Sayings};
 use mud_control::Control;
 use mud_hall::{Hall, HallName};
-use mud_journal::{Gate, Held};
-use mud_server_state::{Places, ServerState};
+use mud_journal::Held;
+use mud_server_state::{Commits, Places, ServerState};
 use mud_socket::{Ending, Entrance, Parting, Socket, rest};
 use std::alloc::Global;
 use std::sync::atomic::{AtomicBool, AtomicU64, Ordering};
 use std::sync::{Arc, Mutex, Wait};
 use std::time::{Clock, Duration};
 
-/// The state of the hall that `J` names.
-pub type StateOf<J> = ServerState<Hall<J>, Places<J>, Gate<J>>;
+/// The state of the hall that `J` names, whose changes `G` makes durable.
+pub type StateOf<J, G> = ServerState<Hall<J>, Places<J>, G>;
 
 /// A connection: its socket, and its client during the session. Only the reader thread and the notice thread of the
 /// session take the session's lock.
@@ -34,7 +34,7 @@ pub(crate) const CLOSE_TRIES: u32 = 80;
 pub(crate) const CLOSE_MILLISECONDS: u64 = 50;
 
 // Returns the number of synced entries, as far as sessions count.
-pub(crate) fn synced_entries<J: HallName>(state: &StateOf<J>) -> u32 {
+pub(crate) fn synced_entries<J: HallName, G: Commits<J>>(state: &StateOf<J, G>) -> u32 {
     u32::try_from(state.gate.synced_count()).unwrap_or(u32::MAX)
 }
 
@@ -80,7 +80,7 @@ impl<J: HallName> Connection<J> {
 
     /// Returns the reason why the session should end from outside, if it should: all sessions end, or the host ends
     /// this one.
-    pub(crate) fn ending(&self, state: &StateOf<J>) -> Option<Ending> {
+    pub(crate) fn ending<G: Commits<J>>(&self, state: &StateOf<J, G>) -> Option<Ending> {
         match state.ending() {
             Some(ending) => Some(ending),
             None => self.socket.dismissal(),
@@ -93,17 +93,17 @@ impl<J: HallName> Connection<J> {
     }
 
     /// Returns whether the notice thread has to stop: the session ends or should end, or the server turns.
-    pub(crate) fn is_ending(&self, state: &StateOf<J>) -> bool {
+    pub(crate) fn is_ending<G: Commits<J>>(&self, state: &StateOf<J, G>) -> bool {
         self.ending(state).is_some() || state.is_turning() || self.is_hanging_up()
     }
 
     /// Begins the session at a place. Returns the number of its desk, or `None` if an allocation fails or no desk is
     /// left.
-    pub(crate) fn start<R: Wait>(
+    pub(crate) fn start<G: Commits<J>, R: Wait>(
         &self,
         rt: &R,
         alloc: Global,
-        state: &StateOf<J>,
+        state: &StateOf<J, G>,
         at: usize,
     ) -> Option<u32> {
         let framing = match self.socket.entrance() {
@@ -126,9 +126,13 @@ impl<J: HallName> Connection<J> {
 
     /// Makes the session look for all changes of its volume, in which no session changes anything any more. Returns
     /// whether the session continues.
-    pub(crate) fn look_at_all<R: Wait + Clock>(&self, rt: &R, state: &StateOf<J>) -> bool {
+    pub(crate) fn look_at_all<G: Commits<J>, R: Wait + Clock>(
+        &self,
+        rt: &R,
+        state: &StateOf<J, G>,
+    ) -> bool {
         let all = state.control.tally.changes() as usize;
-        if state.gate.wait_for(rt, all).is_some() {
+        if state.commit(rt, all).is_some() {
             return self.look(rt, state);
         }
         let mut guard = self.client.lock(rt);
@@ -139,10 +143,10 @@ impl<J: HallName> Connection<J> {
     /// Returns the parts that outlive the volume: the socket, the client without the desk, and the number of
     /// announcements that the session was told. The desk is stored. Returns `None` if the session has ended; one whose
     /// output waits ends.
-    pub(crate) fn rest<R: Wait>(
+    pub(crate) fn rest<G: Commits<J>, R: Wait>(
         &self,
         rt: &R,
-        state: &StateOf<J>,
+        state: &StateOf<J, G>,
         at: usize,
     ) -> Option<(Arc<Socket>, RestingClient, u64)> {
         let socket = Arc::try_clone(&self.socket).ok()?;
@@ -162,11 +166,11 @@ impl<J: HallName> Connection<J> {
     /// Continues a session that rested, at a new desk. Returns the number of the desk, or `None` if an allocation fails
     /// or no desk is left. A session that comes from an earlier volume is told the number of this one. If its player
     /// can't sit down, it is a guest's, and is told so.
-    pub(crate) fn go_on<R: Wait>(
+    pub(crate) fn go_on<G: Commits<J>, R: Wait>(
         &self,
         rt: &R,
         alloc: Global,
-        state: &StateOf<J>,
+        state: &StateOf<J, G>,
         at: usize,
         resting: RestingClient,
         quay: &Quay,
@@ -188,13 +192,18 @@ impl<J: HallName> Connection<J> {
 
     /// Ends the session: stores its desk for the next one, and frees its place. The socket is shut first, which ends a
     /// write of the other thread under the lock.
-    pub(crate) fn leave<R: Wait>(&self, rt: &R, state: &StateOf<J>, at: usize) {
+    pub(crate) fn leave<G: Commits<J>, R: Wait>(&self, rt: &R, state: &StateOf<J, G>, at: usize) {
         self.socket.shut();
         self.give_back(rt, state, at);
     }
 
     /// Returns the desk to its place and leaves the socket open, for a web socket that was closed already.
-    pub(crate) fn give_back<R: Wait>(&self, rt: &R, state: &StateOf<J>, at: usize) {
+    pub(crate) fn give_back<G: Commits<J>, R: Wait>(
+        &self,
+        rt: &R,
+        state: &StateOf<J, G>,
+        at: usize,
+    ) {
         let client = self.client.lock(rt).take();
         if let Some(client) = client {
             state.keep_desk(rt, at, client.into_desk());
@@ -204,17 +213,17 @@ impl<J: HallName> Connection<J> {
 
     // Sends a text after the versions that it can name are synced; an empty text names none. The client uses the memory
     // of the text again.
-    fn send_text<R: Wait + Clock>(
+    fn send_text<G: Commits<J>, R: Wait + Clock>(
         &self,
         rt: &R,
-        gate: &Gate<J>,
+        state: &StateOf<J, G>,
         client: &mut Option<Client<J>>,
         text: Held<J, Sayings>,
     ) -> Result<(), Parting> {
         if text.is_empty() {
             return Ok(());
         }
-        let Some(receipt) = gate.wait_for(rt, text.version()) else {
+        let Some(receipt) = state.commit(rt, text.version()) else {
             return Err(Parting::JournalFault);
         };
         let sent = text.open(&receipt);
@@ -228,10 +237,10 @@ impl<J: HallName> Connection<J> {
     /// Sends the output of a step, under the session's lock, after the versions that it can name are synced. Returns
     /// whether the session continues. If frames have ended it, that is the first reason, whether or not the other side
     /// takes the close.
-    pub(crate) fn send<R: Wait + Clock>(
+    pub(crate) fn send<G: Commits<J>, R: Wait + Clock>(
         &self,
         rt: &R,
-        state: &StateOf<J>,
+        state: &StateOf<J, G>,
         client: &mut Option<Client<J>>,
         outgoing: Outgoing<J>,
     ) -> bool {
@@ -239,7 +248,7 @@ impl<J: HallName> Connection<J> {
         if let Some(End::Over(error)) = end {
             self.socket.part(rt, Parting::of_error(&error));
         }
-        let parting = match self.send_text(rt, &state.gate, client, text) {
+        let parting = match self.send_text(rt, state, client, text) {
             Ok(()) => end.map(parting_of),
             Err(parting) => Some(parting),
         };
@@ -396,7 +405,11 @@ impl<J: HallName> Connection<J> {
     /// Makes the session look for changes of others, under its lock, as far as they are synced, and sends its output.
     /// Returns whether the session continues. The number of synced entries is read first, so that under the lock the
     /// thread waits only for the other side. The hall's lock is not taken, however many changes there are.
-    pub(crate) fn look<R: Wait + Clock>(&self, rt: &R, state: &StateOf<J>) -> bool {
+    pub(crate) fn look<G: Commits<J>, R: Wait + Clock>(
+        &self,
+        rt: &R,
+        state: &StateOf<J, G>,
+    ) -> bool {
         let most = synced_entries(state);
         let mut guard = self.client.lock(rt);
         let Some(before) = guard.take() else {

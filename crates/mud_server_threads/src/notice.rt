@@ -3,6 +3,7 @@
 use crate::connection::{CLOSE_MILLISECONDS, CLOSE_TRIES, Connection, StateOf};
 use crossbeam_utils::sync::Parker;
 use mud_hall::HallName;
+use mud_server_state::Commits;
 use mud_socket::{Ending, Parting, now, rest};
 use std::sync::Wait;
 use std::time::{Clock, Duration};
@@ -24,9 +25,9 @@ pub(crate) struct Sleeper {
 // Waits while the player is typing, or until the session should end. The replies carry the changes of others meanwhile,
 // which saves texts. The first wait is the remainder of the typing time. Each further one is twice as long, because the
 // next change wakes this thread once the player is not typing any more.
-fn leave_to_replies<J: HallName, R: Wait + Clock>(
+fn leave_to_replies<J: HallName, G: Commits<J>, R: Wait + Clock>(
     rt: &R,
-    state: &StateOf<J>,
+    state: &StateOf<J, G>,
     connection: &Connection<J>,
     sleeper: &Sleeper,
 ) {
@@ -64,9 +65,9 @@ fn see_off<J: HallName, R: Wait>(rt: &R, connection: &Connection<J>) {
 /// It checks whether the session should end before the first sleep too, because the wake-up for that may have come
 /// already. While it rests, a wake-up is kept and costs the waking thread no system call. So in a busy world several
 /// changes are sent together.
-pub(crate) fn tell_all<J: HallName, R: Wait + Clock>(
+pub(crate) fn tell_all<J: HallName, G: Commits<J>, R: Wait + Clock>(
     rt: &R,
-    state: &StateOf<J>,
+    state: &StateOf<J, G>,
     connection: &Connection<J>,
     sleeper: &Sleeper,
 ) {

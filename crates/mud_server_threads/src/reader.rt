@@ -1,7 +1,5 @@
 //! Runs the reader thread of a session.
 
-ghost use Rattle.std.specs.Prelude.{◌≤◌, length, IfOk};
-
 use crate::connection::{Connection, StateOf, synced_entries};
 use crate::habits::Habits;
 use crate::quay::{Guest, Quay};
@@ -10,6 +8,7 @@ use log::{Log, info, warn};
 use mud_client::Outgoing;
 use mud_control::{Pace, Refusal};
 use mud_hall::HallName;
+use mud_server_state::Commits;
 use mud_socket::{Entrance, Parting, Patience, now, rest, unix_seconds};
 use mud_web::{FirstLine, Verdict};
 use std::alloc::Global;
@@ -35,9 +34,9 @@ const SILENT_SECONDS: u32 = 1;
 // The state of a reader thread: the connection, the place of its session, the number of its desk, and what it knows of
 // the session.
 #[derive(Drop)]
-struct Reading<'a, J: HallName, R> {
+struct Reading<'a, J: HallName, G, R> {
     rt: &'a R,
-    state: &'a StateOf<J>,
+    state: &'a StateOf<J, G>,
     connection: &'a Connection<J>,
     at: usize,
     number: u32,
@@ -52,16 +51,16 @@ enum Stopped {
     Rests,
 }
 
-impl<'a, J: HallName, R: Threads + Wait + Log + Clock + Sync> Reading<'a, J, R> {
+impl<'a, J: HallName, G: Commits<J>, R: Threads + Wait + Log + Clock + Sync> Reading<'a, J, G, R> {
     // Returns the state for the session at the place, whose time limit for a player begins now.
     fn new(
         rt: &'a R,
         alloc: Global,
-        state: &'a StateOf<J>,
+        state: &'a StateOf<J, G>,
         connection: &'a Connection<J>,
         at: usize,
         number: u32,
-    ) -> Reading<'a, J, R> {
+    ) -> Reading<'a, J, G, R> {
         let (socket, start) = (connection.socket(), now(rt));
         let (peer, control) = (socket.peer(), &state.control);
         let shared = control.crowd.begin(rt, peer.ip(), start);
@@ -351,34 +350,23 @@ impl<'a, J: HallName, R: Threads + Wait + Log + Clock + Sync> Reading<'a, J, R> 
                 waits = self.step(&[]);
                 continue;
             }
-            match self.next_piece(&mut buffer) {
+            let socket = self.connection.socket();
+            match socket.read(self.rt, self.patience(), &mut buffer) {
                 Ok(0) => {}
                 Ok(count) => waits = self.take_in(&buffer[..count]),
+                Err(Parting::Unnamed) if !self.habits.is_named => self.name(),
                 Err(parting) => return Stopped::Parted(parting),
             }
         }
         unreachable!()
     }
 
-    // Reads the next bytes, with a short wait until the log names the session. Returns the number of bytes.
-    fn next_piece(&mut self, buffer: &mut [u8]) -> Result<usize, Parting>
-        ensures { IfOk result (λ count. count ≤ length buffer.old) }
-    {
-        let connection = self.connection;
+    // Returns the patience with which the next bytes are read: a short one until the log names the session.
+    fn patience(&self) -> &Patience {
         if self.habits.is_named {
-            return connection
-                .socket()
-                .read(self.rt, &self.habits.patience, buffer);
-        }
-        match connection
-            .socket()
-            .read(self.rt, &self.habits.moment, buffer)
-        {
-            Err(Parting::Unnamed) => {
-                self.name();
-                Ok(0)
-            }
-            other => other,
+            &self.habits.patience
+        } else {
+            &self.habits.moment
         }
     }
 
@@ -499,8 +487,8 @@ impl<'a, J: HallName, R: Threads + Wait + Log + Clock + Sync> Reading<'a, J, R> 
 
 /// Runs the reader thread of the session at a place, at the desk with this number. It sends the greeting, and serves
 /// the input, beginning with `first`. Then it ends the session, or leaves it on the quay.
-pub(crate) fn read_all<'s, E, J: HallName, R: Threads + Wait + Log + Clock + Sync>(
-    server: &Server<'s, E, J, R>,
+pub(crate) fn read_all<'s, E, J: HallName, G: Commits<J>, R: Threads + Wait + Log + Clock + Sync>(
+    server: &Server<'s, E, J, G, R>,
     connection: &Connection<J>,
     at: usize,
     number: u32,
@@ -519,8 +507,8 @@ pub(crate) fn read_all<'s, E, J: HallName, R: Threads + Wait + Log + Clock + Syn
 }
 
 /// Runs the reader thread of a session that rested, at its new place and desk.
-pub(crate) fn read_on<'s, E, J: HallName, R: Threads + Wait + Log + Clock + Sync>(
-    server: &Server<'s, E, J, R>,
+pub(crate) fn read_on<'s, E, J: HallName, G: Commits<J>, R: Threads + Wait + Log + Clock + Sync>(
+    server: &Server<'s, E, J, G, R>,
     connection: &Connection<J>,
     at: usize,
     number: u32,

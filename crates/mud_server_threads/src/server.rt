@@ -10,7 +10,7 @@ use log::{Log, info, warn};
 use mud_client::RestingClient;
 use mud_control::{Member, Refusal};
 use mud_hall::HallName;
-use mud_server_state::NoPlace;
+use mud_server_state::{Commits, NoPlace};
 use mud_socket::{Parting, Socket, now, unix_seconds};
 use std::alloc::Global;
 use std::net::IpAddr;
@@ -24,11 +24,11 @@ use std::time::Clock;
 /// They are one struct, because the prover's search for types that may cross threads gives up on a closure that
 /// captures many values. Each method that starts a thread cites lemmas for the captured values (`proofs/Crosses.antt`).
 #[derive(Drop)]
-pub struct Server<'s, E, J: HallName, R> {
+pub struct Server<'s, E, J: HallName, G, R> {
     pub scope: &'s Scope<'s, E>,
     pub rt: &'s R,
     pub alloc: Global,
-    pub state: &'s StateOf<J>,
+    pub state: &'s StateOf<J, G>,
     pub quay: &'s Quay,
 }
 
@@ -67,13 +67,14 @@ fn refusal_of(no_place: NoPlace) -> Refusal {
     }
 }
 
-impl<'s, E, J, R> Server<'s, E, J, R>
+impl<'s, E, J, G, R> Server<'s, E, J, G, R>
 where
     J: HallName + Send + Sync + 's,
+    G: Commits<J> + Sync + 's,
     R: Threads + Wait + Log + Clock + Sync + 's,
 {
     /// Returns a copy for another thread. A derived `Clone` would require `Clone` of what this only refers to.
-    pub fn again(&self) -> Server<'s, E, J, R> {
+    pub fn again(&self) -> Server<'s, E, J, G, R> {
         let Server {
             scope,
             rt,

@@ -3,7 +3,7 @@
 use crate::server::{Begun, Server};
 use log::Log;
 use mud_hall::HallName;
-use mud_server_state::NoPlace;
+use mud_server_state::{Commits, NoPlace};
 use mud_socket::{Entrance, Socket, set_up};
 use std::io::Write;
 use std::net::{Shutdown, SocketAddr, TcpStream};
@@ -18,9 +18,10 @@ fn refuse(stream: TcpStream, no_place: NoPlace) {
     let _ = stream.shutdown(Shutdown::Both);
 }
 
-impl<'s, E, J, R> Server<'s, E, J, R>
+impl<'s, E, J, G, R> Server<'s, E, J, G, R>
 where
     J: HallName + Send + Sync + 's,
+    G: Commits<J> + Sync + 's,
     R: Threads + Wait + Log + Clock + Sync + 's,
 {
     // Begins a Telnet session at the place. Returns whether it did.

@@ -1,3 +1,2 @@
 mod Crosses
-mod Prefixes
 mod Deciding

@@ -3,6 +3,7 @@
 use mud_chron::Entry;
 use mud_control::Tally;
 use mud_hall::{HallName, Reader};
+use mud_server_state::Commits;
 use mud_server_threads::StateOf;
 use mud_world::{Deed, Target};
 use std::alloc::Global;
@@ -37,7 +38,11 @@ pub fn count_objects(tally: &Tally, entries: &[Entry]) {
 }
 
 /// Counts the objects of entries that were not counted yet. If an allocation fails, some are not counted.
-pub(crate) fn count_new<J: HallName>(alloc: Global, state: &StateOf<J>, reader: &mut Reader<J>) {
+pub(crate) fn count_new<J: HallName, G: Commits<J>>(
+    alloc: Global,
+    state: &StateOf<J, G>,
+    reader: &mut Reader<J>,
+) {
     if let Ok(entries) = reader.read(alloc, &state.hall, MOST_READ) {
         count_objects(&state.control.tally, &entries);
     }

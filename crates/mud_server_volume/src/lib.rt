@@ -1,13 +1,13 @@
 //! One volume of a server: many sessions at a time, over connections, in one hall.
 //!
 //! [`listen_on`] serves Telnet connections and browsers, each with a session of its own at a desk of one hall. At the
-//! end it closes the hall and writes its history. [`listen_journaled`] also keeps the history on a disk. For a server
-//! with volumes, [`serve_volume`] serves one of them, and ends early if it is time to turn to the next. docs/SERVER.md
-//! has the threads, their locks, which thread wakes which, and how all of them end.
+//! end it closes the hall and writes its history. For a server with volumes, [`serve_volume`] serves one of them with
+//! a journal on a disk, and ends early if it is time to turn to the next. docs/SERVER.md has the threads, their locks,
+//! which thread wakes which, and how all of them end.
 //!
-//! Threads: the caller's thread writes the journal, and owns it. One more accepts connections, and owns the listeners;
-//! it starts those of `mud_server_threads`, and the search for a shorter history. All of them end before the volume
-//! does, and none outlives the shared state, which the caller's thread owns.
+//! Threads: the caller's thread accepts connections, and owns the listeners and the shared state. It starts the threads
+//! of `mud_server_threads`, which write the journal, and the search for a shorter history. All of them end before the
+//! volume does, and none outlives the shared state.
 //!
 //! ```
 //! let doors = Doors { telnet: TcpListener::bind(&rt, ("127.0.0.1", 4000))?, web: None };
@@ -26,7 +26,6 @@
 #![tactic(auto)]
 
 mod census;
-mod journaled;
 pub mod laws;
 mod listen;
 pub mod marks;
@@ -35,7 +34,6 @@ mod turning;
 mod volume;
 
 pub use census::count_objects;
-pub use journaled::listen_journaled;
 pub use listen::{Served, is_well_ended, listen_on, ports_of, resume_hall, try_entries};
 pub use mud_control::{Control, Hosting, Rates, StopSign};
 pub use mud_listeners::{Doors, Site, WebDoor};

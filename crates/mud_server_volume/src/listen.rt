@@ -20,7 +20,7 @@ use mud_journal::Gate;
 use mud_listeners::{Arrival, Arrivals, Doors, Listeners, Ports};
 use mud_row::History;
 use mud_server_end::{ServerFault, settle, write_entries, write_ports};
-use mud_server_state::{Limits, Lobby, ServerState};
+use mud_server_state::{Commits, Limits, Lobby, ServerState};
 use mud_server_threads::{
     Guest, Quay, Remaining, Seated, Server, StateOf, begin_rest, look_at_rest, shut_late,
 };
@@ -85,13 +85,14 @@ pub(crate) struct Comers {
 // Accepts connections and begins their sessions until no further session may begin, or the server turns. A connection
 // that is accepted after the stop flag was set gets no session. If the listeners were closed in an earlier volume, it
 // returns the reason for that.
-fn accept_all<'s, E, J, R>(
-    server: &Server<'s, E, J, R>,
+fn accept_all<'s, E, J, G, R>(
+    server: &Server<'s, E, J, G, R>,
     arrivals: &mut Option<Arrivals>,
     course: Course<'s>,
 ) -> Served
 where
     J: HallName + Send + Sync + 's,
+    G: Commits<J> + Sync + 's,
     R: Threads + Wait + Log + Clock + Sync + 's,
     ensures { result ≡ Served.All → IfNone course.entry.stop (0 < course.entry.limits.total) }
 {
@@ -123,9 +124,10 @@ where
 }
 
 // Seats the sessions that rested. One that can't sit again ends.
-fn seat_each<'s, E, J, R>(server: &Server<'s, E, J, R>, guests: Vec<Guest>) -> Vec<Seated<J>>
+fn seat_each<'s, E, J, G, R>(server: &Server<'s, E, J, G, R>, guests: Vec<Guest>) -> Vec<Seated<J>>
 where
     J: HallName + Send + Sync + 's,
+    G: Commits<J> + Sync + 's,
     R: Threads + Wait + Log + Clock + Sync + 's,
 {
     let mut all = Vec::new(server.alloc);
@@ -140,9 +142,10 @@ where
 }
 
 // Seats the sessions that rested, and only then starts their threads: so nobody misses what others say.
-fn seat_all<'s, E, J, R>(server: &Server<'s, E, J, R>, guests: Vec<Guest>)
+fn seat_all<'s, E, J, G, R>(server: &Server<'s, E, J, G, R>, guests: Vec<Guest>)
 where
     J: HallName + Send + Sync + 's,
+    G: Commits<J> + Sync + 's,
     R: Threads + Wait + Log + Clock + Sync + 's,
 {
     let mut count = 0u32;
@@ -159,9 +162,14 @@ where
 // Waits until no session is left, or it is time to turn: then it returns `Due`, and otherwise the reason why no further
 // connection was accepted. Once the server is shutting down or the journal has failed, the sessions should end too; a
 // socket that is not shut within five seconds is shut then.
-fn see_out<'s, E, J, R>(server: &Server<'s, E, J, R>, course: Course<'s>, served: Served) -> Served
+fn see_out<'s, E, J, G, R>(
+    server: &Server<'s, E, J, G, R>,
+    course: Course<'s>,
+    served: Served,
+) -> Served
 where
     J: HallName + Send + Sync + 's,
+    G: Commits<J> + Sync + 's,
     R: Threads + Wait + Log + Clock + Sync + 's,
     ensures { (result ≡ Served.Due) ⊎ (result ≡ served) }
 {
@@ -184,13 +192,14 @@ where
 
 // Seats the sessions that rested, accepts connections as long as it may, and waits for the sessions to rest or to end.
 // The caller's scope ends once they do.
-fn take_and_see_out<'s, E, J, R>(
-    server: &Server<'s, E, J, R>,
+fn take_and_see_out<'s, E, J, G, R>(
+    server: &Server<'s, E, J, G, R>,
     course: Course<'s>,
     comers: Comers,
 ) -> (Option<Arrivals>, Served)
 where
     J: HallName + Send + Sync + 's,
+    G: Commits<J> + Sync + 's,
     R: Threads + Wait + Log + Clock + Sync + 's,
     ensures { result.1 ≡ Served.All → IfNone course.entry.stop (0 < course.entry.limits.total) }
 {
@@ -224,10 +233,14 @@ pub fn is_well_ended(is_served: bool, stop: Option<&StopSign>, total: u32) -> bo
 
 /// Serves the sessions that rested, and the connections of the listeners, until no further session may begin, or the
 /// server turns, and waits until all sessions have ended, or rest.
-pub(crate) fn serve_sessions<J: HallName + Send + Sync, R: Threads + Wait + Log + Clock + Sync>(
+pub(crate) fn serve_sessions<
+    J: HallName + Send + Sync,
+    G: Commits<J> + Sync,
+    R: Threads + Wait + Log + Clock + Sync,
+>(
     rt: &R,
     alloc: Global,
-    state: &StateOf<J>,
+    state: &StateOf<J, G>,
     course: Course<'_>,
     comers: Comers,
 ) -> (Option<Arrivals>, Served) {
@@ -244,10 +257,14 @@ pub(crate) fn serve_sessions<J: HallName + Send + Sync, R: Threads + Wait + Log 
 }
 
 // Serves the connections of the listeners in one volume. Returns whether all sessions were served that should be.
-fn serve_connections<J: HallName + Send + Sync, R: Threads + Wait + Log + Clock + Sync>(
+fn serve_connections<
+    J: HallName + Send + Sync,
+    G: Commits<J> + Sync,
+    R: Threads + Wait + Log + Clock + Sync,
+>(
     rt: &R,
     alloc: Global,
-    state: &StateOf<J>,
+    state: &StateOf<J, G>,
     listeners: Listeners,
     limits: Limits,
     stop: Option<&StopSign>,
@@ -299,7 +316,7 @@ fn serve_all<J: HallName + Send + Sync, R: Threads + Wait + Log + Clock + Sync>(
     let state = ServerState::new(alloc, hall, limits, Gate::open(), lobby, control)?;
     state.begin(rt, 1);
     let is_served = serve_connections(rt, alloc, &state, listeners, limits, stop)?;
-    let Ok((hall, desks, _)) = state.into_parts(alloc) else {
+    let Ok((hall, desks, _, _)) = state.into_parts(alloc) else {
         return Err(ServerFault::OutOfMemory);
     };
     let history = settle(rt, alloc, limits, hall, desks)?;

@@ -7,6 +7,7 @@ use mud_chron::Entry;
 use mud_compact::shorten;
 use mud_control::Tally;
 use mud_hall::HallName;
+use mud_server_state::Commits;
 use mud_server_threads::{Server, StateOf};
 use std::alloc::{AllocError, Global};
 use std::sync::{Mutex, Wait};
@@ -109,7 +110,7 @@ impl Turning {
     }
 
     /// Tells the sessions from when on their lines wait for the turn.
-    pub(crate) fn begin<J: HallName, R: Wait>(&self, rt: &R, state: &StateOf<J>) {
+    pub(crate) fn begin<J: HallName, G: Commits<J>, R: Wait>(&self, rt: &R, state: &StateOf<J, G>) {
         if let Some(plan) = &self.plan {
             let from = plan.lock(rt).held_from(state.limits.capacity as usize);
             state.hold_from(from);
@@ -117,9 +118,10 @@ impl Turning {
     }
 
     /// Starts the search if it is time for it. Returns whether the server should turn now.
-    pub(crate) fn is_due<'s, E, J, R>(&'s self, server: &Server<'s, E, J, R>) -> bool
+    pub(crate) fn is_due<'s, E, J, G, R>(&'s self, server: &Server<'s, E, J, G, R>) -> bool
     where
         J: HallName + Send + Sync + 's,
+        G: Commits<J> + Sync + 's,
         R: Threads + Wait + Log + Clock + Sync + 's,
     {
         let Some(plan) = &self.plan else {
@@ -161,9 +163,10 @@ impl Turning {
     }
 
     // Starts the thread that searches for a proposal.
-    fn begin_search<'s, E, J, R>(&'s self, server: &Server<'s, E, J, R>)
+    fn begin_search<'s, E, J, G, R>(&'s self, server: &Server<'s, E, J, G, R>)
     where
         J: HallName + Send + Sync + 's,
+        G: Commits<J> + Sync + 's,
         R: Threads + Wait + Log + Clock + Sync + 's,
     {
         let other = server.again();
@@ -174,9 +177,10 @@ impl Turning {
     }
 
     // Records what the search found. If it found nothing, because memory or a thread lacks, it is tried again later.
-    fn end_search<'s, E, J, R>(&self, server: &Server<'s, E, J, R>, found: Option<Proposal>)
+    fn end_search<'s, E, J, G, R>(&self, server: &Server<'s, E, J, G, R>, found: Option<Proposal>)
     where
         J: HallName + Send + Sync + 's,
+        G: Commits<J> + Sync + 's,
         R: Threads + Wait + Log + Clock + Sync + 's,
     {
         let Some(plan) = &self.plan else {
@@ -197,9 +201,10 @@ impl Turning {
     }
 
     // Searches for a shorter history of the present world.
-    fn search<'s, E, J, R>(&self, server: &Server<'s, E, J, R>)
+    fn search<'s, E, J, G, R>(&self, server: &Server<'s, E, J, G, R>)
     where
         J: HallName + Send + Sync + 's,
+        G: Commits<J> + Sync + 's,
         R: Threads + Wait + Log + Clock + Sync + 's,
     {
         let found = match self.read(server.rt, server.alloc, server.state) {
@@ -210,11 +215,11 @@ impl Turning {
     }
 
     // Returns the present history, or `None` if an allocation fails.
-    fn read<J: HallName, R: Wait>(
+    fn read<J: HallName, G: Commits<J>, R: Wait>(
         &self,
         rt: &R,
         alloc: Global,
-        state: &StateOf<J>,
+        state: &StateOf<J, G>,
     ) -> Option<Vec<Entry>> {
         let mut reader = state.hall.reader(rt).ok()?;
         let mut entries = copies(alloc, &self.loaded).ok()?;

@@ -1,7 +1,6 @@
 //! Serves one volume: a hall, its journal, and the sessions that come from the volume before it.
 
 ghost use Rattle.std.specs.Prelude.{◌≡◌, ◌≤◌, ◌<◌, length, IfOk, IfErr, IfNone, false};
-ghost use mathlib.Core.List.{IsPrefix};
 ghost use Rattle.mud_world.specs.declared.limits.TheConstants.{MOST_ENTRIES};
 ghost use Rattle.mud_search.specs.declared.limits.TheConstants.{MOST_WORKERS};
 ghost use Rattle.mud_journal.specs.Disk.{Holds};
@@ -13,18 +12,17 @@ use crate::turning::Turning;
 use log::Log;
 use mud_control::{Control, StopSign};
 use mud_hall::{Hall, HallName, NewHall};
-use mud_journal::{Disk, Gate, Journal, JournalFault, Nameless};
+use mud_journal::{Disk, Journal, Nameless};
 use mud_listeners::{Arrivals, Doors};
 use mud_row::History;
-use mud_server_end::{JournalWriter, ServerFault, settle_journaled};
-use mud_server_state::{Limits, Lobby, ServerState};
-use mud_server_threads::{Came, Guest, Quay, Server, StateOf};
-use mud_socket::{Ending, now};
+use mud_server_end::{GroupCommit, JournalWriter, ServerFault, settle_group};
+use mud_server_state::{Commits, Limits, Lobby, ServerState};
+use mud_server_threads::{Came, Guest, Quay, StateOf};
+use mud_socket::Ending;
 use std::alloc::Global;
 use std::marker::Brand;
 use std::sync::{Arc, Wait};
-use std::thread;
-use std::thread::{JoinHandle, Threads};
+use std::thread::Threads;
 use std::time::Clock;
 
 /// The terms of all volumes of a server: the limits, and the means of its host.
@@ -67,131 +65,16 @@ pub struct Ended<D: Disk + Drop> {
     pub served: Served,
 }
 
-// Writes the journal as requested, until the gate is closed, and wakes the notice threads after each sync. If the
-// journal fails, they are woken too; the accepting thread checks for that by itself.
-#[tactic(auto, using(crate::proofs::Prefixes::prefix_trans))]
-fn write_all<J: HallName, D: Disk + Drop, R: Wait + Clock>(
-    rt: &R,
-    state: &StateOf<J>,
-    writer: &mut JournalWriter<J, D>,
-) -> Result<(), JournalFault>
-    ensures longer { IsPrefix writer.old.entries writer.new.entries }
-{
-    for _ in rt.forever() {
-        if !state.gate.next(rt) {
-            return Ok(());
-        }
-        match writer.write(&state.hall) {
-            Ok(receipt) => {
-                state.gate.publish(&receipt);
-                state.note_synced();
-                state.wake_hearers(rt, None, now(rt));
-            }
-            Err(fault) => {
-                state.gate.fail();
-                state.control.tally.note_failure();
-                state.control.roster.wake_all(rt);
-                return Err(fault);
-            }
-        }
-    }
-    unreachable!()
-}
-
-// Serves the connections. At its end no thread requests more of the journal.
-fn serve_and_close<'s, E, J, R>(
-    server: &Server<'s, E, J, R>,
-    course: Course<'s>,
-    comers: Comers,
-) -> (Option<Arrivals>, Served)
-where
-    J: HallName + Send + Sync + 's,
-    R: Threads + Wait + Log + Clock + Sync + 's,
-{
-    let served = serve_sessions(server.rt, server.alloc, server.state, course, comers);
-    server.state.gate.close();
-    served
-}
-
-// Starts the thread that serves the connections.
-fn begin_serving<'s, E, J, R>(
-    server: &Server<'s, E, J, R>,
-    course: Course<'s>,
-    comers: Comers,
-) -> Option<JoinHandle<(Option<Arrivals>, Served)>>
-where
-    J: HallName + Send + Sync + 's,
-    R: Threads + Wait + Log + Clock + Sync + 's,
-{
-    let other = server.again();
-    let begun = server
-        .scope
-        .spawn(move || serve_and_close(&other, course, comers));
-    begun.ok()
-}
-
-// Starts the thread that serves the connections, writes the journal, and waits until that thread has ended.
-fn serve_and_write<'s, E, J, D, R>(
-    server: &Server<'s, E, J, R>,
-    course: Course<'s>,
-    comers: Comers,
-    writer: JournalWriter<J, D>,
-) -> Result<(JournalWriter<J, D>, Option<Arrivals>, Served), ServerFault>
-where
-    J: HallName + Send + Sync + 's,
-    D: Disk + Drop,
-    R: Threads + Wait + Log + Clock + Sync + 's,
-    ensures longer { IfOk result (λ s. IsPrefix writer.entries s.0.entries) }
-    ensures fault { IfErr result IsInnerFault }
-{
-    let Some(begun) = begin_serving(server, course, comers) else {
-        return Err(ServerFault::OutOfMemory);
-    };
-    let mut writer = writer;
-    let written = write_all(server.rt, server.state, &mut writer);
-    let (arrivals, served) = begun.join(server.rt);
-    written?;
-    Ok((writer, arrivals, served))
-}
-
-// Serves the connections in other threads, and writes the journal in this one.
-fn serve_journaled<
-    J: HallName + Send + Sync,
-    D: Disk + Drop,
-    R: Threads + Wait + Log + Clock + Sync,
->(
-    rt: &R,
-    alloc: Global,
-    state: &StateOf<J>,
-    course: Course<'_>,
-    comers: Comers,
-    writer: JournalWriter<J, D>,
-) -> Result<(JournalWriter<J, D>, Option<Arrivals>, Served), ServerFault>
-    ensures longer { IfOk result (λ s. IsPrefix writer.entries s.0.entries) }
-    ensures fault { IfErr result IsInnerFault }
-{
-    thread::scope(thread::scope_env(), rt, move |scope| {
-        let server = Server {
-            scope,
-            rt,
-            alloc,
-            state,
-            quay: course.quay,
-        };
-        serve_and_write(&server, course, comers, writer)
-    })
-}
-
 // Returns the state of a volume, and its players.
-fn state_of<J: HallName, R: Wait + Log>(
+fn state_of<J: HallName, G: Commits<J>, R: Wait + Log>(
     rt: &R,
     alloc: Global,
     hall: Hall<J>,
-    gate: Gate<J>,
+    gate: G,
     company: Company,
     terms: Terms<'_>,
     volume: u32,
-) -> Result<(StateOf<J>, Comers), ServerFault>
+) -> Result<(StateOf<J, G>, Comers), ServerFault>
     requires { terms.limits.workers ≤ MOST_WORKERS }
     ensures places { IfOk result (λ s. length s.0.places.list.items ≡ terms.entry.limits.sessions) }
     ensures fault { IfErr result IsInnerFault }
@@ -231,13 +114,11 @@ fn settle_one<J: HallName, D: Disk + Drop, R: Wait + Log>(
     rt: &R,
     alloc: Global,
     limits: Limits,
-    state: StateOf<J>,
-    writer: JournalWriter<J, D>,
+    state: StateOf<J, GroupCommit<J, D>>,
     left: Left,
 ) -> Result<Ended<D>, ServerFault>
     requires places { length state.places.list.items ≡ limits.sessions }
     requires capacity { limits.capacity ≤ MOST_ENTRIES }
-    requires begun { IsPrefix J.loaded writer.entries }
     ensures ends { IfOk result (λ e. MayEnd limits J.loaded e.history) }
     ensures journaled { IfOk result (λ e. Holds (D.kept e.journal.disk) e.history) }
     ensures count { IfOk result (λ e. e.journal.count ≡ length e.history) }
@@ -245,7 +126,7 @@ fn settle_one<J: HallName, D: Disk + Drop, R: Wait + Log>(
     ensures fault { IfErr result IsInnerFault }
 {
     let players = state.player_count();
-    let Ok((hall, desks, lobby)) = state.into_parts(alloc) else {
+    let Ok((hall, desks, lobby, gate)) = state.into_parts(alloc) else {
         return Err(ServerFault::OutOfMemory);
     };
     let Left {
@@ -254,7 +135,7 @@ fn settle_one<J: HallName, D: Disk + Drop, R: Wait + Log>(
         guests,
         proposal,
     } = left;
-    let (history, journal) = match settle_journaled(rt, alloc, limits, hall, desks, writer) {
+    let (history, journal) = match settle_group(rt, alloc, limits, hall, desks, gate) {
         Ok(settled) => settled,
         Err(fault) => {
             if matches!(fault, ServerFault::Journal(_)) {
@@ -278,7 +159,11 @@ fn settle_one<J: HallName, D: Disk + Drop, R: Wait + Log>(
 }
 
 // Serves one volume in the hall, which J names, and settles it. The journal has the initial entries of the hall.
-fn serve_one<J: HallName + Send + Sync, D: Disk + Drop, R: Threads + Wait + Log + Clock + Sync>(
+fn serve_one<
+    J: HallName + Send + Sync,
+    D: Disk + Drop + Send,
+    R: Threads + Wait + Log + Clock + Sync,
+>(
     rt: &R,
     alloc: Global,
     company: Company,
@@ -309,7 +194,7 @@ fn serve_one<J: HallName + Send + Sync, D: Disk + Drop, R: Threads + Wait + Log 
     let hall = hall.with_name::<J>();
     let reader = hall.reader(rt)?;
     let writer = JournalWriter::new(alloc, journal, reader);
-    let gate = Gate::new(&writer.receipt());
+    let gate = GroupCommit::new(writer);
     let (state, comers) = state_of(rt, alloc, hall, gate, company, terms, volume)?;
     let quay = Quay::new(alloc, volume, came, limits.sessions)?;
     let course = Course {
@@ -318,21 +203,19 @@ fn serve_one<J: HallName + Send + Sync, D: Disk + Drop, R: Threads + Wait + Log 
         limits,
         stop: terms.stop,
     };
-    let (writer, arrivals, served) = serve_journaled::<J, D, R>(
-        rt, alloc, &state, course, comers, writer,
-    )?;
+    let (arrivals, served) = serve_sessions(rt, alloc, &state, course, comers);
     let left = Left {
         arrivals,
         served,
         guests: quay.into_guests(),
         proposal: turning.into_proposal(),
     };
-    settle_one(rt, alloc, limits, state, writer, left)
+    settle_one(rt, alloc, limits, state, left)
 }
 
 /// Serves one volume in a hall that has no name yet: this call picks the name. So a loop may call it, and each volume
 /// is a hall of its own.
-pub fn serve_volume<D: Disk + Drop, R: Threads + Wait + Log + Clock + Sync>(
+pub fn serve_volume<D: Disk + Drop + Send, R: Threads + Wait + Log + Clock + Sync>(
     rt: &R,
     alloc: Global,
     company: Company,

@@ -5,17 +5,14 @@ use crate::names::volume_name;
 use crate::shelf::Shelf;
 use mud_chron::Entry;
 use mud_journal::{
-    Disk, DiskFault, Found, Journal, JournalFile, Nameless, OpenFault, find_journal,
+    Disk, DiskFault, Found, Journal, JournalFile, NamedFiles, Nameless, OpenFault, find_journal,
 };
 use std::alloc::AllocError;
-use std::fs::{self, File, OpenOptions};
+use std::fs::{self, File};
 use std::io::{self, ErrorKind, Write};
-use std::os::unix::fs::{MetadataExt, OpenOptionsExt, fchown};
+use std::os::unix::fs::{MetadataExt, fchown};
 use std::os::unix::io::AsFd;
 use std::rt::Files;
-
-// Only the owner of a new volume may read and write it.
-const NEW_MODE: u32 = 0o600;
 
 /// The folder of a journal.
 #[derive(Drop)]
@@ -27,7 +24,7 @@ pub struct VolumeFolder<'r, R: Files<File = File>> {
 
 /// A file of that folder which is to be a volume, locked by this process.
 #[derive(Drop)]
-pub struct DraftFile<'r, R: Files<File = File>> {
+pub struct DraftFile<'r, R: NamedFiles> {
     rt: &'r R,
     file: File,
     folder: String,
@@ -49,14 +46,6 @@ pub fn folder_of<'r, 'j, R: Files<File = File> + AllocGlobal + Clone + Drop>(
             let path = String::new(rt.alloc());
             Ok((VolumeFolder { rt, path }, journal))
         }
-    }
-}
-
-// Removes a file if it exists.
-fn remove(rt: &impl Files, name: &str) -> io::Result<()> {
-    match fs::remove_file(rt, name) {
-        Err(error) if error.kind() != ErrorKind::NotFound => Err(error),
-        _ => Ok(()),
     }
 }
 
@@ -90,7 +79,7 @@ impl<'r, R: Files<File = File> + AllocGlobal + Clone + Drop> VolumeFolder<'r, R>
 
     /// Removes the file that was to be a volume of this journal, if a crash left it.
     pub fn clear(&self, journal: &str) -> io::Result<()> {
-        remove(self.rt, self.temporary(journal)?.as_str())
+        self.rt.remove(self.temporary(journal)?.as_str())
     }
 
     // Returns the names of the files that begin with this one.
@@ -116,12 +105,8 @@ impl<'r, R: Files<File = File> + AllocGlobal + Clone + Drop> VolumeFolder<'r, R>
         let old = volume_name(alloc, journal, number.saturating_sub(1))?;
         let volume = volume_name(alloc, journal, number)?;
         let temporary = self.temporary(journal)?;
-        remove(rt, temporary.as_str())?;
-        let file = OpenOptions::new()
-            .append(true)
-            .create_new(true)
-            .mode(NEW_MODE)
-            .open(rt, temporary.as_str())?;
+        rt.remove(temporary.as_str())?;
+        let file = rt.create_new(temporary.as_str())?;
         take_after(rt, self.path_of(old.as_str())?.as_str(), &file)?;
         file.try_lock()?;
         // a sync of its data alone need not keep its owner and mode
@@ -136,7 +121,8 @@ impl<'r, R: Files<File = File> + AllocGlobal + Clone + Drop> VolumeFolder<'r, R>
     }
 }
 
-impl<'r, R: Files<File = File> + AllocGlobal + Clone + Drop> Shelf for VolumeFolder<'r, R> {
+impl<'r, R: Files<File = File> + NamedFiles + AllocGlobal + Clone + Drop + Sync> Shelf
+    for VolumeFolder<'r, R> {
     type Disk = JournalFile<'r, R>;
 
     type Draft = DraftFile<'r, R>;
@@ -170,7 +156,7 @@ impl<'r, R: Files<File = File> + AllocGlobal + Clone + Drop> Shelf for VolumeFol
     }
 }
 
-impl<R: Files<File = File>> Draft for DraftFile<'_, R> {
+impl<R: NamedFiles> Draft for DraftFile<'_, R> {
     ghost use Rattle.std.specs.Prelude.{None};
     ghost use Rattle.mud_journal.specs.Crash.{AreAny};
 
@@ -200,16 +186,18 @@ impl<R: Files<File = File>> Draft for DraftFile<'_, R> {
 
     fn rename(&mut self) -> Result<(), DiskFault> {
         let volume = self.volume.as_str();
-        match fs::symlink_metadata(self.rt, volume) {
+        match self.rt.about(volume) {
             Err(error) if error.kind() == ErrorKind::NotFound => {}
             Err(error) => return Err(DiskFault::of(&error)),
             Ok(_) => return Err(DiskFault::Busy),
         }
-        fs::rename(self.rt, self.temporary.as_str(), volume).map_err(|error| DiskFault::of(&error))
+        self.rt
+            .rename(self.temporary.as_str(), volume)
+            .map_err(|error| DiskFault::of(&error))
     }
 
     fn is_renamed(&mut self) -> Result<bool, DiskFault> {
-        let named = match fs::symlink_metadata(self.rt, self.volume.as_str()) {
+        let named = match self.rt.about(self.volume.as_str()) {
             Err(error) if error.kind() == ErrorKind::NotFound => return Ok(false),
             Err(error) => return Err(DiskFault::of(&error)),
             Ok(named) => named,
@@ -219,12 +207,12 @@ impl<R: Files<File = File>> Draft for DraftFile<'_, R> {
     }
 
     fn sync_folder(&mut self) -> Result<(), DiskFault> {
-        let folder = File::open(self.rt, self.folder.as_str());
-        let folder = folder.map_err(|error| DiskFault::of(&error))?;
-        folder.sync_all().map_err(|error| DiskFault::of(&error))
+        self.rt
+            .sync_folder(self.folder.as_str())
+            .map_err(|error| DiskFault::of(&error))
     }
 
     fn discard(&mut self) {
-        let _ = remove(self.rt, self.temporary.as_str());
+        let _ = self.rt.remove(self.temporary.as_str());
     }
 }

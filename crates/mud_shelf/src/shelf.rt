@@ -26,10 +26,10 @@ const MOST_LOOKS: u32 = 3;
 /// A folder with the volumes of a journal.
 pub trait Shelf {
     /// The file of a volume, locked by this process.
-    type Disk: Disk + Drop;
+    type Disk: Disk + Drop + Send;
 
     /// A file that is to be a volume.
-    type Draft: Draft + Drop;
+    type Draft: Draft + Drop + Send;
 
     /// The bytes of each file by its name; `None` while nothing is known.
     ghost files: { Self → Option Folder };

@@ -7,6 +7,7 @@ use crate::options::probe;
 use crate::parting::{Ending, Parting};
 use crate::patience::Patience;
 use crate::time::now;
+use libc::sched_yield;
 use std::alloc::Global;
 use std::io::{ErrorKind, Read, Write};
 use std::net::{IpAddr, Ipv4Addr, Shutdown, SocketAddr, TcpStream};
@@ -191,6 +192,8 @@ impl Socket {
     {
         let mut stream = &self.stream;
         patience.wait(now(clock))?;
+        // In a busy server bytes often come while the other threads run, and this one need not sleep for them.
+        let _ = sched_yield();
         match stream.read(buffer) {
             Ok(0) => Err(Parting::Left),
             Ok(count) => Ok(count),

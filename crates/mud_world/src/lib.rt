@@ -11,7 +11,7 @@
 //! | `leaving`, `arriving` | the exits that leave it; the exits that lead to it |
 //! | `holds`, `carried`, `in_reach` | containment; everything inside an object; what an actor reaches |
 //! | `unlocked`, `is_unlocked` | whether an object is unlocked for a holder, or for the holder with a number |
-//! | `judge` | the same for all objects at once, with an index of the keys (`KeyIndex`) |
+//! | `judge` | whether each object is unlocked for a holder, by an index of the keys (`KeyIndex`) |
 //! | `legal` | the refusal with the least number, or none |
 //! | `apply` | the world after a legal change |
 //! | `copy` | an equal world |

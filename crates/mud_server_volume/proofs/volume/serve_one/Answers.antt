@@ -1,13 +1,5 @@
-use Rattle.std.proofs.Common.{List, ◌∙◌, subst}
-use mathlib.Core.List.{IsPrefix}
-use Rattle.mud_chron.specs.Entry.{Entry}
 use Rattle.std.proofs.lemmas.Result.{err_from_is_err_and}
 use Rattle.mud_server_volume.proofs.volume.serve_one.Goals as goal
-
-pub settle_one-requires-clause-begun : goal.settle_one-requires-clause-begun
-settle_one-requires-clause-begun g c =
-    subst (λ (l : List Entry). IsPrefix l c.in_ok-writer.writer.entries)
-    (c.new-writer.ensures ∙ c.in_ok-reader.ensures) c.in_ok-writer.ensures.longer
 
 pub returns-in_err-reader-clause-fault : goal.returns-in_err-reader-clause-fault
 returns-in_err-reader-clause-fault g c =

@@ -1,5 +1,5 @@
 use Rattle.std.proofs.Common.{◌≤◌, ◌+◌, length}
-use Rattle.mud_server_state.proofs.state.ServerState+Hall+J+Places+J+Gate+J.into_parts.Given as goal
+use Rattle.mud_server_state.proofs.state.ServerState+Hall+J+Places+J+G.into_parts.Given as goal
 
 abbrev pub invariant-loop-place : goal.invariant-loop-place
 invariant-loop-place g l =

@@ -1,5 +1,8 @@
 //! The counts of a server.
 
+ghost use Rattle.std.specs.Prelude.{◌≡◌};
+ghost use Rattle.mud_control.specs.Refusals.{refusal_word};
+
 use std::sync::atomic::{AtomicBool, AtomicU64, Ordering};
 use std::time::Duration;
 
@@ -20,7 +23,9 @@ pub enum Refusal {
 
 impl Refusal {
     /// Returns its word in the log.
-    pub fn word(self) -> &'static str {
+    pub fn word(self) -> &'static str
+        ensures { result.now ≡ refusal_word self }
+    {
         match self {
             Refusal::Full => "full",
             Refusal::Address => "address",

@@ -1,6 +1,6 @@
 //! Reads the files of histories and journals.
 
-ghost use Rattle.std.specs.Prelude.{◌≡◌, ◌≤◌, IfOk, length, take};
+ghost use Rattle.std.specs.Prelude.{◌≡◌, ◌≤◌, Ok, Err, IfOk, IfNone, IfSome, length, take};
 
 use crate::unloaded::Unloaded;
 use mud_chron::{Entry, before_zero, read_front, read_history};
@@ -8,7 +8,9 @@ use std::fs;
 use std::rt::Files;
 
 /// Returns the entries of the history in the file with this name. It reads the whole file before it reads the text.
-pub fn load<R: Files + AllocGlobal>(rt: &R, name: &str) -> Result<Vec<Entry>, Unloaded> {
+pub fn load<R: Files + AllocGlobal>(rt: &R, name: &str) -> Result<Vec<Entry>, Unloaded>
+    ensures { ¬ (result ≡ Err Unloaded.NotEmpty) }
+{
     let text = match fs::read(rt, name) {
         Ok(text) => text,
         Err(error) => return Err(Unloaded::of_file(&error)),
@@ -40,12 +42,15 @@ pub fn load_journal<R: Files + AllocGlobal>(
 /// Returns the entries that a world with a journal continues: those of the journal, or those of the history in the file
 /// with this name if the journal is empty. Without a name they are those of the journal.
 ///
-/// Errors: `NotEmpty` if there are a name and entries of a journal, else those of [`load`].
+/// Errors: `NotEmpty` exactly if there are a name and entries of a journal, else those of [`load`].
 pub fn entries_to_continue<R: Files + AllocGlobal>(
     rt: &R,
     name: Option<&str>,
     journal: Vec<Entry>,
 ) -> Result<Vec<Entry>, Unloaded>
+    ensures journal { IfNone name.entry (result ≡ Ok journal) }
+    ensures refused { IfSome name.entry (λ _. 1 ≤ length journal.items → result ≡ Err Unloaded.NotEmpty) }
+    ensures otherwise { result ≡ Err Unloaded.NotEmpty → 1 ≤ length journal.items }
     ensures front { IfOk result (λ v. take (length journal.items) v.items ≡ journal.items) }
     ensures within { IfOk result (λ v. length journal.items ≤ length v.items) }
 {

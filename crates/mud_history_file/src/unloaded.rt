@@ -1,5 +1,9 @@
 //! The reasons why a hall does not continue a file.
 
+ghost use Rattle.std.specs.Prelude.{◌≡◌, ◌≢◌};
+ghost use Rattle.std.specs.IoError.{error_kind};
+ghost use Rattle.mud_history_file.specs.Unloaded.{unloaded_text, unloaded_entries};
+
 use mud_chron::ChronFault;
 use mud_hall::LoadFault;
 use std::io::{self, ErrorKind};
@@ -42,7 +46,10 @@ pub enum Unloaded {
 
 impl Unloaded {
     /// Returns the reason why a file was not read.
-    pub fn of_file(error: &io::Error) -> Unloaded {
+    pub fn of_file(error: &io::Error) -> Unloaded
+        ensures memory { error_kind error.now ≡ ErrorKind.OutOfMemory → result ≡ Unloaded.OutOfMemory }
+        ensures file { error_kind error.now ≢ ErrorKind.OutOfMemory → result ≡ Unloaded.File }
+    {
         match error.kind() {
             ErrorKind::OutOfMemory => Unloaded::OutOfMemory,
             _ => Unloaded::File,
@@ -50,7 +57,9 @@ impl Unloaded {
     }
 
     /// Returns the reason why a text is not a history.
-    pub fn of_text(fault: ChronFault) -> Unloaded {
+    pub fn of_text(fault: ChronFault) -> Unloaded
+        ensures { result ≡ unloaded_text fault }
+    {
         match fault {
             ChronFault::OutOfMemory => Unloaded::OutOfMemory,
             ChronFault::NotHistory => Unloaded::NotHistory,
@@ -62,7 +71,9 @@ impl Unloaded {
     }
 
     /// Returns the reason why a hall does not continue these entries.
-    pub fn of_entries(fault: &LoadFault) -> Unloaded {
+    pub fn of_entries(fault: &LoadFault) -> Unloaded
+        ensures { result ≡ unloaded_entries fault.now }
+    {
         match fault {
             LoadFault::OutOfMemory => Unloaded::OutOfMemory,
             LoadFault::BadChange(entry) => Unloaded::Change(*entry),

@@ -2,7 +2,6 @@
 
 ghost use Rattle.std.specs.Prelude.{◌≡◌, ◌≤◌, ◌+◌, false, length, IfOk, IfErr, OnOk};
 ghost use Rattle.mud_world.specs.declared.limits.TheConstants.{MOST_ENTRIES};
-ghost use mathlib.Core.List.{IsPrefix};
 ghost use Rattle.mud_hall.specs.Settlement.{IsSettled};
 ghost use Rattle.mud_hall.specs.Steps.{AreLoadable};
 ghost use Rattle.mud_journal.specs.Disk.{Holds};
@@ -10,7 +9,6 @@ ghost use Rattle.mud_server_end.specs.Server.{MayEnd, IsInnerFault};
 
 use crate::fault::ServerFault;
 use crate::group::GroupCommit;
-use crate::writer::JournalWriter;
 use mud_chron::ChronFault;
 use mud_hall::{CloseFault, Desk, Hall, HallName};
 use mud_journal::{Disk, Journal, JournalFault, Nameless};
@@ -44,34 +42,6 @@ pub fn settle<J: HallName, R: Wait>(
     }
 }
 
-// Writes the remaining entries to the journal, and settles the hall.
-fn settle_journaled<J: HallName, D: Disk + Drop, R: Wait>(
-    rt: &R,
-    alloc: Global,
-    limits: Limits,
-    hall: Hall<J>,
-    desks: Vec<Desk<J>>,
-    writer: JournalWriter<J, D>,
-) -> Result<(History, Journal<Nameless, D>), ServerFault>
-    requires few { length desks.items ≤ limits.sessions }
-    requires capacity { limits.capacity ≤ MOST_ENTRIES }
-    requires begun { IsPrefix J.loaded writer.entries }
-    ensures ends { IfOk result (λ s. MayEnd limits J.loaded s.0) }
-    ensures journaled { IfOk result (λ s. Holds (D.kept s.1.disk) s.0) }
-    ensures count { IfOk result (λ s. s.1.count ≡ length s.0) }
-    ensures going { IfOk result (λ s. s.1.has_failed ≡ false) }
-    ensures fault { IfErr result IsInnerFault }
-{
-    let mut desks = desks;
-    let mut writer = writer;
-    writer.finish(&hall, &mut desks)?;
-    let history = settle(rt, alloc, limits, hall, desks)?;
-    if history.len() as usize != writer.len() {
-        return Err(ServerFault::Journal(JournalFault::Mismatch));
-    }
-    Ok((history, writer.into_journal()))
-}
-
 /// Writes the remaining entries to the journal that the sessions wrote, and settles the hall. The journal then has its
 /// whole history, and can take further entries. If it has failed before, its fault is returned.
 pub fn settle_group<J: HallName, D: Disk + Drop, R: Wait>(
@@ -90,8 +60,14 @@ pub fn settle_group<J: HallName, D: Disk + Drop, R: Wait>(
     ensures going { IfOk result (λ s. s.1.has_failed ≡ false) }
     ensures fault { IfErr result IsInnerFault }
 {
-    let writer = group.into_writer()?;
-    settle_journaled(rt, alloc, limits, hall, desks, writer)
+    let mut desks = desks;
+    let mut writer = group.into_writer()?;
+    writer.finish(&hall, &mut desks)?;
+    let history = settle(rt, alloc, limits, hall, desks)?;
+    if history.len() as usize != writer.len() {
+        return Err(ServerFault::Journal(JournalFault::Mismatch));
+    }
+    Ok((history, writer.into_journal()))
 }
 
 // Returns the reason why the desks made no history.

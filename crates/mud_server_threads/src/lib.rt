@@ -1,4 +1,4 @@
-//! The threads of a server, except the accepting one and the one that writes a journal.
+//! The threads of a server, except the accepting one.
 //!
 //! Each thread that starts others has a [`Server`]. It admits a Telnet connection (`welcome`), or has a browser's
 //! request read, which may play (`receive`). A session has two threads that share one connection: the reader thread,

@@ -6,6 +6,23 @@ use Rattle.mud_socket.specs.declared.parting.Ending.{Ending}
 use Rattle.mud_socket.specs.declared.parting.Ending.TheVariants as Ended
 use Rattle.mud_socket.specs.declared.parting.Parting.{Parting}
 use Rattle.mud_socket.specs.declared.parting.Parting.TheVariants as By
+use Rattle.websocket.specs.declared.error.Error.{Error}
+use Rattle.websocket.specs.declared.error.Error.TheVariants as Failed
+
+-- the reason of a session that is ended from outside
+abbrev pub parting_of : Ending → Parting
+parting_of Ended.Stop = By.ServerStops
+parting_of Ended.JournalFault = By.JournalFault
+parting_of Ended.ByHost = By.Ended
+
+-- the reason of a session whose web socket ended with this error
+abbrev pub parting_of_error : Error → Parting
+parting_of_error (Failed.Protocol fault) = By.BrokenFrame
+parting_of_error (Failed.Capacity fault) = By.BrokenFrame
+parting_of_error Failed.Utf8 = By.BrokenFrame
+parting_of_error Failed.OutOfMemory = By.OutOfMemory
+parting_of_error Failed.ConnectionClosed = By.Left
+parting_of_error Failed.AlreadyClosed = By.Left
 
 -- the last line for a session that is ended from outside
 abbrev pub ending_line : Ending → List ℕ

@@ -1,7 +1,7 @@
 //! The ends of a session.
 
 ghost use Rattle.std.specs.Prelude.{◌≡◌, option_map};
-ghost use Rattle.mud_socket.specs.Parting.{ending_line, line_of, close_of};
+ghost use Rattle.mud_socket.specs.Parting.{parting_of, parting_of_error, ending_line, line_of, close_of};
 
 use mud_web::Ending as Close;
 use thiserror::Error;
@@ -68,7 +68,9 @@ pub enum Parting {
 
 impl Parting {
     /// Returns the reason of a session that is ended from outside.
-    pub fn of_ending(ending: Ending) -> Parting {
+    pub fn of_ending(ending: Ending) -> Parting
+        ensures { result ≡ parting_of ending }
+    {
         match ending {
             Ending::Stop => Parting::ServerStops,
             Ending::JournalFault => Parting::JournalFault,
@@ -77,7 +79,9 @@ impl Parting {
     }
 
     /// Returns the reason of a session whose web socket ended with this error.
-    pub fn of_error(error: &error::Error) -> Parting {
+    pub fn of_error(error: &error::Error) -> Parting
+        ensures { result ≡ parting_of_error error.now }
+    {
         match error {
             error::Error::Protocol(_) | error::Error::Utf8 | error::Error::Capacity(_) => {
                 Parting::BrokenFrame

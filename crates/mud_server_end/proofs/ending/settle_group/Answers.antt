@@ -2,7 +2,7 @@ use Rattle.std.proofs.Common.{◌≡◌, ◌∙◌, length, sym, subst, arith}
 use Rattle.mud_hall.specs.Settlement.{IsGathered}
 use Rattle.mud_journal.specs.Disk.{Holds}
 use Rattle.mud_server_end.proofs.Keeping.{prefix_trans, all_there}
-use Rattle.mud_server_end.proofs.ending.settle_journaled.Goals as goal
+use Rattle.mud_server_end.proofs.ending.settle_group.Goals as goal
 
 pub returns-clause-journaled : goal.returns-clause-journaled
 returns-clause-journaled g c =
@@ -12,7 +12,7 @@ returns-clause-journaled g c =
     let long : length history ≡ length list = omega arith in
     let made : IsGathered loaded c.args.desks.items history =
     subst (λ ds. IsGathered loaded ds history) c.finish.ensures.same c.in_ok-history.ensures.settled.gathered in
-    let begun = prefix_trans loaded c.args.writer.entries list c.requires.begun c.finish.ensures.longer in
+    let begun = prefix_trans loaded c.in_ok-writer.writer.entries list c.in_ok-writer.ensures c.finish.ensures.longer in
     subst (λ k. Holds k history) (sym c.into_journal.ensures.kept)
     (all_there loaded list history c.args.desks.items c.finish.new.self.kept begun c.in_ok-finish.ensures.gathered made
     long c.in_ok-finish.ensures.holds)

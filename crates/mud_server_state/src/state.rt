@@ -24,8 +24,10 @@ const MOST_BUSY: u32 = 32;
 // The number of microseconds that each session adds to the rest.
 const SHARE_MICROSECONDS: u64 = 16;
 
-// The number of rests for which a player counts as typing.
+// The number of rests for which a player counts as typing, and the shortest such time.
 const TYPING_RESTS: u32 = 2;
+
+const LEAST_TYPING_MICROSECONDS: u64 = 512;
 
 /// Places for sessions. Each has a lock of its own, under which no other lock is taken.
 #[derive(Drop)]
@@ -90,7 +92,9 @@ impl<H, P, G> ServerState<H, P, G> {
 
     /// Returns how long a player counts as typing after an answered line. Meanwhile the replies carry the notices.
     pub fn typing_time(&self) -> Duration {
-        self.notice_rest().saturating_mul(TYPING_RESTS)
+        self.notice_rest()
+            .saturating_mul(TYPING_RESTS)
+            .max(Duration::from_micros(LEAST_TYPING_MICROSECONDS))
     }
 
     /// Counts a session that became a player's.

@@ -1,5 +1,6 @@
 -- When a server turns to its next volume.
 use Rattle.std.specs.Prelude.{◌≡◌, ◌≤◌, ◌<◌, ℕ, ◌-◌, ◌/◌, max, nat_le, Bool, true, false, ◌&&◌, ◌||◌, if◌then◌else◌}
+use Rattle.mud_chron.specs.declared.limits.TheConstants.{MOST_DESKS}
 use Rattle.mud_server_volume.specs.declared.marks.Fill.{Fill}
 use Rattle.mud_server_volume.specs.declared.marks.Progress.{Progress}
 use Rattle.mud_server_volume.specs.declared.marks.Progress.TheVariants.{Idle, Runs, Found}
@@ -14,8 +15,9 @@ search_mark capacity = capacity - capacity / 4
 abbrev pub turn_mark : ℕ → ℕ
 turn_mark capacity = capacity - capacity / 8
 
+-- each session may just make one more change
 abbrev pub last_mark : ℕ → ℕ
-last_mark capacity = capacity - capacity / 16
+last_mark capacity = max (turn_mark capacity) (capacity - max (capacity / 16) MOST_DESKS)
 
 -- the greatest number of changes with which a next volume begins
 abbrev pub most_begun : ℕ → ℕ

@@ -1,7 +1,10 @@
 //! Decides when a server turns to its next volume.
 
-ghost use Rattle.std.specs.Prelude.{◌≡◌, ◌≤◌, ◌<◌, false};
+ghost use Rattle.std.specs.Prelude.{◌≡◌, ◌≤◌, ◌<◌, ◌+◌, ◌*◌, false};
+ghost use Rattle.mud_chron.specs.declared.limits.TheConstants.{MOST_DESKS};
 ghost use Rattle.mud_server_volume.specs.Marks.{search_mark, turn_mark, last_mark, most_begun, has, decision};
+
+use mud_chron::limits::MOST_DESKS;
 
 /// The number of changes at which the search for a shorter history begins.
 pub fn search_mark(capacity: usize) -> usize
@@ -18,10 +21,14 @@ pub fn turn_mark(capacity: usize) -> usize
 }
 
 /// The number of changes from which the server turns while the search runs, unless the world is known to be large.
+/// Lines wait for that turn, but each session may just make one more change. For that there is room with a capacity of
+/// 512 or more.
 pub fn last_mark(capacity: usize) -> usize
-    ensures { result ≡ last_mark capacity }
+    ensures mark { result ≡ last_mark capacity }
+    ensures room { 8 * MOST_DESKS ≤ capacity → result + MOST_DESKS ≤ capacity }
 {
-    capacity - capacity / 16
+    let room = (capacity / 16).max(MOST_DESKS as usize);
+    turn_mark(capacity).max(capacity.saturating_sub(room))
 }
 
 /// The greatest number of changes with which a next volume begins: fewer than those at which a server turns by itself.

@@ -12,6 +12,8 @@ LONGEST_LINE, README_LINES = 120, 110
 # The files that people read: pages, scripts, sources and specs. Of proofs only the lines are checked.
 SOURCES = ["crates/*/src/**/*.rt", "crates/*/specs/**/*.antt"]
 PROOFS = ["crates/*/proofs/**/*.antt"]
+# The entries of the folder of a crate: its parts, the input and output of its program, and what is built.
+OF_CRATE = {"src", "specs", "proofs", "must-fail", "args", "stdin", "stdout", "status", "data", "out"}
 SCRIPTS = ["run", ".ci/run", "tests/run", "tests/*/*.py", "tests/*/*.c", "bench/*", "bench/*/*", "packaging/*"]
 PAGES = ["*.md", "docs/*", "bench/*.md", "tests/*.md"]
 # The pages whose names between backquotes are all of the crates, or of parts of tests/run.
@@ -360,8 +362,16 @@ def count_repeated(count):
         count(f"a row of {both[0]}", len(both) == 1, f"stands on {' and '.join(both)}: {row}")
 
 
+def count_layout(count):
+    """Counts a test for the folders of the crates: they hold nothing else."""
+    paths = glob.glob("crates/*/*", root_dir=TOP)
+    foreign = [path for path in paths if os.path.basename(path) not in OF_CRATE]
+    count("crates: layout", not foreign, f"foreign: {', '.join(foreign)}")
+
+
 @part("pages", "pages name and quote what is there, fit the reader, and don't repeat each other")
 def check_pages(count):
+    count_layout(count)
     count_lines(count)
     count_kit(count)
     count_figures(count)

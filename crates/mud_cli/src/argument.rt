@@ -91,13 +91,20 @@ pub(crate) const LOAD: Argument = Argument {
     ..OPTION
 };
 
+// Returns a `clap` argument with the name and the action of a row.
+fn named<'a>(alloc: Global, argument: &Argument<'a>) -> Arg<'a> {
+    let arg = Arg::new(alloc, argument.name).action(argument.action);
+    if argument.is_option {
+        arg.long(argument.name)
+    } else {
+        arg
+    }
+}
+
 // Returns the `clap` argument of a row.
 pub(crate) fn arg_of<'a>(alloc: Global, argument: &Argument<'a>) -> Result<Arg<'a>, AllocError> {
-    let mut arg = Arg::new(alloc, argument.name).action(argument.action);
-    if argument.is_option {
-        arg = arg.long(argument.name);
-    }
-    arg.value_names(argument.value)
+    named(alloc, argument)
+        .value_names(argument.value)
         .value_parser(argument.parser)
         .default_values(argument.default)
         .required(argument.is_required)

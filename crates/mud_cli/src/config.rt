@@ -3,7 +3,7 @@
 use crate::argument::Argument;
 use crate::fault::CommandFault;
 use crate::listen::{CHECK, CONFIG};
-use crate::service::{FORMS, LISTENING};
+use crate::service::{LISTENING, forms};
 use clap::ArgAction;
 use clap::builder::ValueParser;
 use std::alloc::{AllocError, Global};
@@ -85,7 +85,7 @@ fn argument_of(name: &str) -> Option<&'static Argument<'static>> {
     if name == CONFIG || name == CHECK {
         return None;
     }
-    let form = FORMS.iter().find(|form| form.name == LISTENING)?;
+    let form = forms().iter().find(|form| form.name == LISTENING)?;
     form.arguments.iter().find(|argument| argument.name == name)
 }
 
@@ -93,21 +93,42 @@ fn argument_of(name: &str) -> Option<&'static Argument<'static>> {
 fn word_of(alloc: Global, argument: &Argument<'_>, value: &Value) -> Result<Option<String>, Unfit> {
     let name = argument.name;
     match argument.parser {
-        ValueParser::Signed(least, most) => match value.as_integer() {
-            Some(number) if least <= number && number <= most => {
-                Ok(Some(format!(in alloc; "--{name}={number}")?))
-            }
-            _ => Err(Unfit::Number(least, most)),
-        },
-        _ if matches!(argument.action, ArgAction::SetTrue) => match value.as_bool() {
-            Some(true) => Ok(Some(format!(in alloc; "--{name}")?)),
-            Some(false) => Ok(None),
-            None => Err(Unfit::Bool),
-        },
-        _ => match value.as_str() {
-            Some(text) => Ok(Some(format!(in alloc; "--{name}={text}")?)),
-            None => Err(Unfit::Text),
-        },
+        ValueParser::Signed(least, most) => number_word(alloc, name, value, least, most),
+        _ if matches!(argument.action, ArgAction::SetTrue) => flag_word(alloc, name, value),
+        _ => text_word(alloc, name, value),
+    }
+}
+
+// Returns the word for a number within these bounds.
+fn number_word(
+    alloc: Global,
+    name: &str,
+    value: &Value,
+    least: i64,
+    most: i64,
+) -> Result<Option<String>, Unfit> {
+    match value.as_integer() {
+        Some(number) if least <= number && number <= most => {
+            Ok(Some(format!(in alloc; "--{name}={number}")?))
+        }
+        _ => Err(Unfit::Number(least, most)),
+    }
+}
+
+// Returns the word for a flag, if it is set.
+fn flag_word(alloc: Global, name: &str, value: &Value) -> Result<Option<String>, Unfit> {
+    match value.as_bool() {
+        Some(true) => Ok(Some(format!(in alloc; "--{name}")?)),
+        Some(false) => Ok(None),
+        None => Err(Unfit::Bool),
+    }
+}
+
+// Returns the word for a text.
+fn text_word(alloc: Global, name: &str, value: &Value) -> Result<Option<String>, Unfit> {
+    match value.as_str() {
+        Some(text) => Ok(Some(format!(in alloc; "--{name}={text}")?)),
+        None => Err(Unfit::Text),
     }
 }
 
@@ -156,6 +177,15 @@ fn table_of(alloc: Global, place: &Place<'_>) -> Result<Table, CommandFault> {
     }
 }
 
+// Returns copies of the words.
+fn copied(alloc: Global, words: &[String]) -> Result<Vec<String>, AllocError> {
+    let mut all = Vec::new(alloc);
+    for word in words {
+        all.push(word.clone()?)?;
+    }
+    Ok(all)
+}
+
 /// Returns the words of the command line, followed by those of the settings file that the command line does not have.
 /// The error names the line of an unknown setting or of a wrong value.
 pub fn with_config(
@@ -166,11 +196,9 @@ pub fn with_config(
 ) -> Result<Vec<String>, CommandFault> {
     let place = Place { file, text };
     let table = table_of(alloc, &place)?;
-    let mut all = Vec::new(alloc);
-    for word in words {
-        let copy = word.clone().map_err(|_| CommandFault::OutOfMemory)?;
-        all.push(copy).map_err(|_| CommandFault::OutOfMemory)?;
-    }
+    let Ok(mut all) = copied(alloc, words) else {
+        return Err(CommandFault::OutOfMemory);
+    };
     for (name, value) in table.iter() {
         let name = name.as_str();
         let Some(argument) = argument_of(name) else {
@@ -178,7 +206,9 @@ pub fn with_config(
         };
         match word_of(alloc, argument, value) {
             Ok(Some(word)) if !has_option(words, name) => {
-                all.push(word).map_err(|_| CommandFault::OutOfMemory)?;
+                if all.push(word).is_err() {
+                    return Err(CommandFault::OutOfMemory);
+                }
             }
             Ok(_) => {}
             Err(unfit) => return Err(unfit_value(alloc, &place, name, unfit)),

@@ -30,12 +30,13 @@ pub(crate) fn program_of<'a>(
     about: &'a str,
     forms: &[Form<'a>],
 ) -> Result<Command<'a>, AllocError> {
-    let mut command = Command::new(alloc, name)
+    let mut commands = Vec::new(alloc);
+    for form in forms {
+        commands.push(command_of(alloc, form)?)?;
+    }
+    Command::new(alloc, name)
         .version(VERSION)
         .about(about)
-        .subcommand_required(true);
-    for form in forms {
-        command = command.subcommand(command_of(alloc, form)?)?;
-    }
-    Ok(command)
+        .subcommand_required(true)
+        .subcommands(commands)
 }

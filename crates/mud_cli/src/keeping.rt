@@ -3,10 +3,10 @@
 use crate::fault::CommandFault;
 use crate::form::program_of;
 use crate::keeping_forms::FORMS;
-use crate::matches::{matches_of, unfit};
+use crate::matches::{Unfit, fit, matched};
 use clap::error::ErrorKind;
 use clap::{ArgMatches, Command};
-use std::alloc::{AllocError, AllocFailed, Global};
+use std::alloc::{AllocError, Global};
 
 /// A text that `mud_keep` makes from a file.
 #[derive(Clone, Copy)]
@@ -99,24 +99,6 @@ pub enum Keeping<'a> {
     },
 }
 
-// The reason why well-formed words name no task.
-enum Unfit {
-    OutOfMemory,
-    Told(&'static str),
-}
-
-impl From<AllocError> for Unfit {
-    fn from(_e: AllocError) -> Unfit {
-        Unfit::OutOfMemory
-    }
-}
-
-impl<T: Drop> From<AllocFailed<T>> for Unfit {
-    fn from(_e: AllocFailed<T>) -> Unfit {
-        Unfit::OutOfMemory
-    }
-}
-
 const NO_WISH: &str = "what is to be done with which file?";
 
 const NO_PROOF: &str = "a proof is of one player, and has no JSON";
@@ -161,13 +143,10 @@ fn several<'a>(
     words: &ArgMatches<'a>,
     name: &str,
 ) -> Result<Vec<&'a str>, AllocError> {
-    let mut found = Vec::new(alloc);
-    if let Some(given) = words.get_strs(name) {
-        for word in given {
-            found.push(*word)?;
-        }
+    match words.get_strs(name) {
+        Some(given) => given.to_vec(alloc),
+        None => Ok(Vec::new(alloc)),
     }
-    Ok(found)
 }
 
 // Returns the versions of the words.
@@ -314,15 +293,9 @@ fn form_in<'m, 'a>(matches: &'m ArgMatches<'a>) -> Option<(&'a str, &'m ArgMatch
 
 /// Reads the words of `mud_keep`. The first word is the program's name.
 pub fn keeping_of<'a>(alloc: Global, words: &'a [String]) -> Result<Keeping<'a>, CommandFault> {
-    let mut command = command(alloc).map_err(|_| CommandFault::OutOfMemory)?;
-    let matches = matches_of(alloc, &mut command, words)?;
-    match keeping_in(alloc, &matches) {
-        Ok(keeping) => Ok(keeping),
-        Err(Unfit::OutOfMemory) => Err(CommandFault::OutOfMemory),
-        Err(Unfit::Told(message)) => {
-            Err(unfit(alloc, &mut command, ErrorKind::MissingSubcommand, message))
-        }
-    }
+    let (command, matches) = matched(alloc, command(alloc), words)?;
+    let task = keeping_in(alloc, &matches);
+    fit(alloc, command, ErrorKind::MissingSubcommand, task)
 }
 
 // Builds the `clap` command.

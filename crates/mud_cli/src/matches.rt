@@ -1,29 +1,72 @@
-//! Runs `clap` over the words.
+//! Reads the words of a command line with `clap`.
+
+ghost use Rattle.std.specs.Prelude.{◌≡◌, IfOk, Ok};
 
 use crate::fault::{CommandFault, fault_of_error};
 use clap::error::ErrorKind;
 use clap::{ArgMatches, Command};
-use std::alloc::Global;
+use std::alloc::{AllocError, AllocFailed, Global};
 
-// Matches the words against a command.
-pub(crate) fn matches_of<'a>(
-    alloc: Global,
-    command: &mut Command<'a>,
-    words: &'a [String],
-) -> Result<ArgMatches<'a>, CommandFault> {
-    command
-        .try_get_matches_from_mut(words)
-        .map_err(|error| fault_of_error(alloc, &error))
+// The reason why words that `clap` accepts name no task.
+pub(crate) enum Unfit {
+    OutOfMemory,
+    Told(&'static str),
 }
 
-// Returns the message for words that `clap` accepts and the program does not.
-pub(crate) fn unfit(
+impl From<AllocError> for Unfit {
+    fn from(_e: AllocError) -> Unfit {
+        Unfit::OutOfMemory
+    }
+}
+
+impl<T: Drop> From<AllocFailed<T>> for Unfit {
+    fn from(_e: AllocFailed<T>) -> Unfit {
+        Unfit::OutOfMemory
+    }
+}
+
+// Matches the words against a command, and returns the command too.
+pub(crate) fn matched<'a>(
     alloc: Global,
-    command: &mut Command<'_>,
+    command: Result<Command<'a>, AllocError>,
+    words: &'a [String],
+) -> Result<(Command<'a>, ArgMatches<'a>), CommandFault> {
+    let Ok(mut command) = command else {
+        return Err(CommandFault::OutOfMemory);
+    };
+    match command.try_get_matches_from_mut(words) {
+        Ok(matches) => Ok((command, matches)),
+        Err(error) => Err(fault_of_error(alloc, &error)),
+    }
+}
+
+// Returns the task. If there is none, the fault is an error of this kind.
+pub(crate) fn fit<T: Drop>(
+    alloc: Global,
+    command: Command<'_>,
     kind: ErrorKind,
-    message: &str,
+    task: Result<T, Unfit>,
+) -> Result<T, CommandFault>
+    ensures { IfOk result (λ t. task ≡ Ok t) }
+{
+    match task {
+        Ok(task) => Ok(task),
+        Err(unfit) => Err(fault_of_unfit(alloc, command, kind, unfit)),
+    }
+}
+
+// Returns the fault for words that `clap` accepts and the program does not.
+fn fault_of_unfit(
+    alloc: Global,
+    mut command: Command<'_>,
+    kind: ErrorKind,
+    unfit: Unfit,
 ) -> CommandFault {
-    match command.error(kind, message) {
+    let error = match unfit {
+        Unfit::OutOfMemory => Err(AllocError),
+        Unfit::Told(message) => command.error(kind, message),
+    };
+    match error {
         Ok(error) => fault_of_error(alloc, &error),
         Err(_) => CommandFault::OutOfMemory,
     }

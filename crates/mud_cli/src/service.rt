@@ -8,7 +8,7 @@ use crate::fault::CommandFault;
 use crate::form::{Form, program_of};
 use crate::limits::{ChosenLimits, ChosenRates, MOST_TOTAL, limits_in, rates_in};
 use crate::listen::{CHECK, LISTEN};
-use crate::matches::{matches_of, unfit};
+use crate::matches::{Unfit, fit, matched};
 use crate::origin::is_origin;
 use clap::error::ErrorKind;
 use clap::{ArgMatches, Command};
@@ -104,15 +104,25 @@ pub struct WebListening<'a> {
 pub fn service_of<'a>(alloc: Global, words: &'a [String]) -> Result<Service<'a>, CommandFault>
     ensures { IfOk result IsServed }
 {
-    let mut command = command(alloc).map_err(|_| CommandFault::OutOfMemory)?;
-    let matches = matches_of(alloc, &mut command, words)?;
-    let message = match service_in(&matches) {
-        Some(service) if has_origin(&service) => return Ok(service),
-        Some(_) =>
-            "an origin is a scheme, :// and a host as browsers write them: http://localhost:8000",
-        None => "a number is out of its range",
-    };
-    Err(unfit(alloc, &mut command, ErrorKind::ValueValidation, message))
+    let (command, matches) = matched(alloc, command(alloc), words)?;
+    let task = served_in(&matches);
+    fit(alloc, command, ErrorKind::ValueValidation, task)
+}
+
+const NO_ORIGIN: &str =
+    "an origin is a scheme, :// and a host as browsers write them: http://localhost:8000";
+
+const NO_NUMBER: &str = "a number is out of its range";
+
+// Returns the service that the matched words name, or the message about a value that it can't have.
+fn served_in<'a>(matches: &ArgMatches<'a>) -> Result<Service<'a>, Unfit>
+    ensures { IfOk result IsServed }
+{
+    match service_in(matches) {
+        Some(service) if has_origin(&service) => Ok(service),
+        Some(_) => Err(Unfit::Told(NO_ORIGIN)),
+        None => Err(Unfit::Told(NO_NUMBER)),
+    }
 }
 
 // Returns whether the web listener, if there is one, has an origin that a browser can send.
@@ -130,9 +140,15 @@ fn has_origin(service: &Service<'_>) -> bool {
 fn service_in<'a>(matches: &ArgMatches<'a>) -> Option<Service<'a>>
     ensures { IfSome result IsServed }
 {
-    match matches.subcommand_matches(LISTENING) {
-        Some(listen) => Some(Service::Listen(listening_in(listen)?)),
-        None => Some(Service::Script(scripting_in(matches.subcommand_matches("script")?)?)),
+    if let Some(listen) = matches.subcommand_matches(LISTENING) {
+        return match listening_in(listen) {
+            Some(listening) => Some(Service::Listen(listening)),
+            None => None,
+        };
+    }
+    match scripting_in(matches.subcommand_matches("script")?) {
+        Some(scripting) => Some(Service::Script(scripting)),
+        None => None,
     }
 }
 
@@ -183,8 +199,12 @@ fn listening_in<'a>(listen: &ArgMatches<'a>) -> Option<Listening<'a>>
 
 // Returns the web listener that was asked for. It listens on this address if the words name no other.
 fn web_in<'a>(listen: &ArgMatches<'a>, address: &'a str) -> Option<WebListening<'a>> {
+    let address = match listen.get_str("web-address") {
+        Some(own) => own,
+        None => address,
+    };
     Some(WebListening {
-        address: listen.get_str("web-address").unwrap_or(address),
+        address,
         port: listen.get_one::<u16>("web-port")?,
         origin: listen.get_str("web-origin")?,
     })
@@ -200,14 +220,19 @@ fn status_in<'a>(listen: &ArgMatches<'a>) -> Option<StatusListening<'a>> {
 
 // Builds the `clap` command.
 fn command<'a>(alloc: Global) -> Result<Command<'a>, AllocError> {
-    program_of(alloc, "mud_serve", "A server of text worlds", &FORMS)
+    program_of(alloc, "mud_serve", "A server of text worlds", forms())
+}
+
+// Returns the forms of `mud_serve`.
+pub(crate) fn forms() -> &'static [Form<'static>] {
+    &FORMS
 }
 
 // The name of the form for servers.
 pub(crate) const LISTENING: &str = "listen";
 
 // The forms of `mud_serve`.
-pub(crate) static FORMS: [Form<'static>; 2] = [
+static FORMS: [Form<'static>; 2] = [
     Form {
         name: "script",
         about: "Answers the lines of standard input, as the Wizard in a new world, or as a player of a history",

@@ -4,7 +4,7 @@ use crate::argument::{Argument, PLACE};
 use crate::build::VERSION;
 use crate::fault::CommandFault;
 use crate::form::{Form, command_of};
-use crate::matches::{matches_of, unfit};
+use crate::matches::{Unfit, fit, matched};
 use clap::error::ErrorKind;
 use clap::{ArgMatches, Command};
 use std::alloc::{AllocError, Global};
@@ -21,28 +21,17 @@ pub enum Sources<'a> {
 /// Reads the words of `mud_check`. The first word is the program's name. Two more words name two files; without them
 /// both texts come from standard input.
 pub fn sources_of<'a>(alloc: Global, words: &'a [String]) -> Result<Sources<'a>, CommandFault> {
-    let mut command = command(alloc).map_err(|_| CommandFault::OutOfMemory)?;
-    let matches = matches_of(alloc, &mut command, words)?;
-    match sources_in(&matches) {
-        Some(sources) => Ok(sources),
-        None => {
-            let message = "a history needs a proof beside it";
-            Err(unfit(
-                alloc,
-                &mut command,
-                ErrorKind::MissingRequiredArgument,
-                message,
-            ))
-        }
-    }
+    let (command, matches) = matched(alloc, command(alloc), words)?;
+    let task = sources_in(&matches);
+    fit(alloc, command, ErrorKind::MissingRequiredArgument, task)
 }
 
 // Returns the two files, if both are named.
-fn sources_in<'a>(matches: &ArgMatches<'a>) -> Option<Sources<'a>> {
+fn sources_in<'a>(matches: &ArgMatches<'a>) -> Result<Sources<'a>, Unfit> {
     match (matches.get_str("HISTORY"), matches.get_str("PROOF")) {
-        (Some(history), Some(proof)) => Some(Sources::Files { history, proof }),
-        (None, None) => Some(Sources::Input),
-        (Some(_), None) | (None, Some(_)) => None,
+        (Some(history), Some(proof)) => Ok(Sources::Files { history, proof }),
+        (None, None) => Ok(Sources::Input),
+        (Some(_), None) | (None, Some(_)) => Err(Unfit::Told("a history needs a proof beside it")),
     }
 }
 

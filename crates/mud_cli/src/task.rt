@@ -7,7 +7,7 @@ use crate::argument::{CAPACITY, LOAD};
 use crate::fault::CommandFault;
 use crate::form::{Form, program_of};
 use crate::limits::MOST_CAPACITY;
-use crate::matches::{matches_of, unfit};
+use crate::matches::{Unfit, fit, matched};
 use crate::subject::{Subject, subject_named};
 use clap::error::ErrorKind;
 use clap::{ArgMatches, Command};
@@ -35,14 +35,18 @@ pub struct Opening<'a> {
 pub fn task_of<'a>(alloc: Global, words: &'a [String]) -> Result<Task<'a>, CommandFault>
     ensures { IfOk result IsWithin }
 {
-    let mut command = command(alloc).map_err(|_| CommandFault::OutOfMemory)?;
-    let matches = matches_of(alloc, &mut command, words)?;
-    match task_in(&matches) {
+    let (command, matches) = matched(alloc, command(alloc), words)?;
+    let task = explained_in(&matches);
+    fit(alloc, command, ErrorKind::MissingSubcommand, task)
+}
+
+// Returns the task that the matched words name, or the message that they name none.
+fn explained_in<'a>(matches: &ArgMatches<'a>) -> Result<Task<'a>, Unfit>
+    ensures { IfOk result IsWithin }
+{
+    match task_in(matches) {
         Some(task) => Ok(task),
-        None => {
-            let message = "what is to be explained?";
-            Err(unfit(alloc, &mut command, ErrorKind::MissingSubcommand, message))
-        }
+        None => Err(Unfit::Told("what is to be explained?")),
     }
 }
 

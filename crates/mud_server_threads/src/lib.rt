@@ -20,6 +20,7 @@ mod browsers;
 mod closing;
 mod connection;
 mod habits;
+mod log_lines;
 mod notice;
 mod quay;
 mod reader;

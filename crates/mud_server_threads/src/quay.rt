@@ -1,6 +1,7 @@
 //! Sessions between two volumes.
 
 use crate::habits::Habits;
+use crate::log_lines::log_end;
 use log::{Log, info};
 use mud_client::RestingClient;
 use mud_control::Tally;
@@ -55,8 +56,7 @@ impl Guest {
             }
         }
         socket.shut();
-        let peer = habits.peer;
-        info!(rt; "end session={number} from={peer} why={parting}");
+        log_end(rt, number, habits.peer, parting);
     }
 }
 

@@ -2,9 +2,10 @@
 
 use crate::connection::{Connection, StateOf, synced_entries};
 use crate::habits::Habits;
+use crate::log_lines::{log_begin, log_end, log_end_of, log_player, log_refusal, log_wait};
 use crate::quay::{Guest, Quay};
 use crate::server::Server;
-use log::{Log, info, warn};
+use log::Log;
 use mud_client::Outgoing;
 use mud_control::{Pace, Refusal};
 use mud_hall::HallName;
@@ -96,9 +97,8 @@ impl<'a, J: HallName, G: Commits<J>, R: Threads + Wait + Log + Clock + Sync> Rea
         if !self.habits.is_named {
             self.habits.is_named = true;
             self.state.control.tally.count_session();
-            let (number, peer) = (self.number, self.habits.peer);
             let by = self.connection.socket().entrance().word();
-            info!(self.rt; "begin session={number} from={peer} by={by}");
+            log_begin(self.rt, self.number, self.habits.peer, by);
         }
     }
 
@@ -144,8 +144,7 @@ impl<'a, J: HallName, G: Commits<J>, R: Threads + Wait + Log + Clock + Sync> Rea
         };
         self.habits.last_wait = Some(now);
         if is_new {
-            let (number, peer) = (self.number, self.habits.peer);
-            info!(self.rt; "slow session={number} from={peer}");
+            log_wait(self.rt, self.number, self.habits.peer);
         }
     }
 
@@ -225,8 +224,7 @@ impl<'a, J: HallName, G: Commits<J>, R: Threads + Wait + Log + Clock + Sync> Rea
         let Some((player, name)) = self.connection.who(rt, &state.hall) else {
             return;
         };
-        let number = self.number;
-        info!(rt; "player session={number} player=#{player} name=\"{name}\"");
+        log_player(rt, self.number, player, name.as_str());
         if let Ok(copy) = name.clone() {
             state.control.roster.name(rt, self.at, player, copy);
         }
@@ -465,11 +463,8 @@ impl<'a, J: HallName, G: Commits<J>, R: Threads + Wait + Log + Clock + Sync> Rea
         if self.habits.is_named {
             self.log_end(parting);
         } else {
-            let count = state.control.tally.count_refusal(Refusal::Request);
-            if state.control.tally.may_log(now(rt)) {
-                let address = self.habits.peer.ip();
-                warn!(rt; "refused from={address} why=request count={count}");
-            }
+            let address = self.habits.peer.ip();
+            log_refusal(rt, &state.control.tally, address, Refusal::Request);
         }
     }
 
@@ -477,10 +472,8 @@ impl<'a, J: HallName, G: Commits<J>, R: Threads + Wait + Log + Clock + Sync> Rea
     fn log_end(&self, parting: Parting) {
         let (rt, number, peer) = (self.rt, self.number, self.habits.peer);
         match &self.habits.player {
-            Some((player, name)) => {
-                info!(rt; "end session={number} from={peer} why={parting} player=#{player} name=\"{name}\"");
-            }
-            None => info!(rt; "end session={number} from={peer} why={parting}"),
+            Some((player, name)) => log_end_of(rt, number, peer, parting, *player, name.as_str()),
+            None => log_end(rt, number, peer, parting),
         }
     }
 }

@@ -2,11 +2,12 @@
 
 use crate::connection::{Connection, StateOf};
 use crate::habits::Habits;
+use crate::log_lines::{log_end, log_number, log_refusal};
 use crate::notice::{Sleeper, tell_all};
 use crate::quay::{Guest, Quay};
 use crate::reader::{read_all, read_on};
 use crossbeam_utils::sync::Parker;
-use log::{Log, info, warn};
+use log::Log;
 use mud_client::RestingClient;
 use mud_control::{Member, Refusal};
 use mud_hall::HallName;
@@ -105,23 +106,14 @@ where
     pub(crate) fn may_come(&self, address: IpAddr) -> bool {
         let (rt, control) = (self.rt, &self.state.control);
         if control.is_banned(rt, address) {
-            self.log_refusal(address, Refusal::Banned);
+            log_refusal(rt, &control.tally, address, Refusal::Banned);
             return false;
         }
         if !control.crowd.connect(rt, address, now(rt)) {
-            self.log_refusal(address, Refusal::Often);
+            log_refusal(rt, &control.tally, address, Refusal::Often);
             return false;
         }
         true
-    }
-
-    /// Counts a refused connection. The log names at most one a second, with the count for its reason.
-    pub(crate) fn log_refusal(&self, address: IpAddr, refusal: Refusal) {
-        let tally = &self.state.control.tally;
-        let (count, why) = (tally.count_refusal(refusal), refusal.word());
-        if tally.may_log(now(self.rt)) {
-            warn!(self.rt; "refused from={address} why={why} count={count}");
-        }
     }
 
     /// Takes the free place with the lowest number for a session of this address that is about to begin.
@@ -133,7 +125,12 @@ where
         let place = self.state.take_place(self.rt, address);
         if let Err(no_place) = place {
             lobby.settle_ticket(&self.state.limits, false);
-            self.log_refusal(address, refusal_of(no_place));
+            log_refusal(
+                self.rt,
+                &self.state.control.tally,
+                address,
+                refusal_of(no_place),
+            );
         }
         place
     }
@@ -211,7 +208,7 @@ where
         };
         let (volume, new) = (self.quay.volume, begun.number);
         if new != number {
-            info!(self.rt; "renumber session={new} was={number} volume={volume}");
+            log_number(self.rt, new, number, volume);
         }
         Some(Seated { begun, at, habits })
     }
@@ -224,7 +221,7 @@ where
             self.state.control.crowd.end(rt, peer.ip());
         }
         let parting = socket.part(rt, Parting::OutOfMemory);
-        info!(rt; "end session={number} from={peer} why={parting}");
+        log_end(rt, number, peer, parting);
     }
 
     // Opens a session that rested at a place.

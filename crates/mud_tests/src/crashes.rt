@@ -1,12 +1,28 @@
 //! A journal on a disk in memory: it is found, begun, appended to, and recovered after a crash.
 
 use crate::disk::{Fate, KnownDisk, Store};
-use crate::journal::{CALLS, TEXT, entries_of};
-use mud_chron::Entry;
+use mud_chron::{ChronFault, Entry, read_front};
 use mud_journal::found_in;
 use std::alloc::{AllocError, Global};
 use std::process::Abort;
 use std::test::Fail;
+
+// The text of a journal of five entries.
+const TEXT: &str = "mud history 2
+1 1 dig #1 new \"A\" out \"a\"
+2 1 walk #1 #3
+3 2 player #4 \"Bob\"
+4 2 say #4 hi
+5 1 emote #1 waves
+";
+
+// The number of calls that write it: one for the first line, and two for each two entries.
+const CALLS: u32 = 7;
+
+// Returns the entries of a journal's text.
+fn entries_of(alloc: Global, text: &str) -> Result<Vec<Entry>, ChronFault> {
+    Ok(read_front(alloc, text.as_bytes())?.entries)
+}
 
 // Recovers a disk with these bytes, and appends the further entries, two at a time, until a call fails. Returns how
 // many were found, and how many are synced.

@@ -2,12 +2,11 @@
 //! finds the cell that another thread has set.
 
 ghost use Rattle.std.specs.Prelude.{◌≡◌, ◌≤◌};
-ghost use Rattle.mud_world.specs.declared.limits.TheConstants.{MOST_ENTRIES};
 
-use crate::histories::LAST_VERSION;
 use crate::lines::act;
 use mud_hall::{CloseFault, Desk, Fault, Hall, HallName, NewHall};
 use mud_words::parse;
+use mud_world::limits::MOST_ENTRIES;
 use std::alloc::{AllocError, Global};
 use std::marker::{Brand, PhantomData};
 use std::process::Abort;
@@ -15,6 +14,9 @@ use std::sync::Wait;
 use std::test::Fail;
 use std::thread;
 use std::thread::Threads;
+
+// The number of changes that a history can hold.
+const MOST: u32 = MOST_ENTRIES as u32;
 
 // Connects a desk as the wizard, and then sends a line `count` times.
 fn talk<J: HallName, R: Wait + AllocGlobal>(
@@ -227,6 +229,6 @@ fn check_crowd<R: Threads + Wait + AllocGlobal + Sync + Abort>(
 fn crowds(rt: HostRuntime) -> Result<(), Fail> {
     check_crowd(&rt, rt.alloc(), 16, 0, 0, 0, 7)?;
     check_crowd(&rt, rt.alloc(), 256, 4, 50, 200, 201)?;
-    check_crowd(&rt, rt.alloc(), LAST_VERSION, 8, 5_000, 40_000, 40_001)?;
+    check_crowd(&rt, rt.alloc(), MOST, 8, 5_000, 40_000, 40_001)?;
     check_crowd(&rt, rt.alloc(), 100, 4, 50, 100, 100)
 }

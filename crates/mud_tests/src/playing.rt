@@ -2,6 +2,7 @@
 
 ghost use Rattle.std.specs.Prelude.{◌≡◌};
 
+use crate::lines::script;
 use mud_hall::{HallName, NewHall};
 use mud_theorems::{Transcript, play_together};
 use std::alloc::{AllocError, Global};
@@ -16,16 +17,13 @@ const NAMES: [&str; 4] = ["Ann", "Bob", "Cyd", "Dan"];
 // The number of `say` lines of each player.
 const SAID: u32 = 200;
 
-// Returns the script of a player of this name.
-fn script(alloc: Global, name: &str) -> Result<Vec<u8>, AllocError> {
-    let mut text = String::new(alloc);
-    text.push_str("connect ")?;
-    text.push_str(name)?;
-    for _ in 0..SAID {
-        text.push_str("\r\nsay hi")?;
+// Returns the scripts of the players.
+fn scripts(alloc: Global) -> Result<Vec<Vec<u8>>, AllocError> {
+    let mut scripts = Vec::new(alloc);
+    for name in NAMES {
+        scripts.push(script(alloc, name, SAID)?)?;
     }
-    text.push_str("\r\nquit\r\n")?;
-    Ok(text.into_bytes())
+    Ok(scripts)
 }
 
 // Checks that each line of a player was answered, in order: `[n] welcome #p`, `[n] said` for each `say`, `[n] bye`.
@@ -49,6 +47,19 @@ fn check_sent(rt: &impl Abort, alloc: Global, player: &Transcript) -> Result<(),
     Ok(())
 }
 
+// Checks this for all players.
+fn check_all_sent(
+    rt: &impl Abort,
+    alloc: Global,
+    players: &[Transcript],
+) -> Result<(), AllocError> {
+    assert!(rt; players.len() == 4);
+    for player in players {
+        check_sent(rt, alloc, player)?;
+    }
+    Ok(())
+}
+
 // Checks that all players play at a hall, and that its history has exactly their changes.
 fn check_players<J: HallName + Send + Sync, R: Threads + Wait + Sync + Abort>(
     rt: &R,
@@ -58,16 +69,10 @@ fn check_players<J: HallName + Send + Sync, R: Threads + Wait + Sync + Abort>(
     requires cells { hall.cells ≡ J.cells }
     requires loaded { hall.loaded ≡ J.loaded }
 {
-    let mut scripts = Vec::new(alloc);
-    for name in NAMES {
-        scripts.push(script(alloc, name)?)?;
-    }
+    let scripts = scripts(alloc)?;
     let (settled, players) = play_together(rt, alloc, hall.with_name::<J>(), scripts)?;
-    assert!(rt; settled.accepted == 4 * (SAID + 1) && players.len() == 4);
-    for player in &players {
-        check_sent(rt, alloc, player)?;
-    }
-    Ok(())
+    assert!(rt; settled.accepted == 4 * (SAID + 1));
+    Ok(check_all_sent(rt, alloc, &players)?)
 }
 
 #[test]

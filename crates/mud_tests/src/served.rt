@@ -6,6 +6,7 @@ ghost use Rattle.mud_hall.specs.Steps.{AreLoadable};
 ghost use Rattle.mud_journal.specs.Disk.{Holds};
 
 use crate::disk::{Fate, KnownDisk, Store};
+use crate::lines::script;
 use mud_chron::read_front;
 use mud_hall::{HallName, NewHall};
 use mud_journal::{Appends, Journal, Nameless, found_in};
@@ -71,21 +72,25 @@ impl Peer for MemoryPeer {
 
 // Returns a peer that plays a player of this name.
 fn peer(alloc: Global, name: &str) -> Result<Arrival<MemoryPeer>, AllocError> {
-    let mut text = String::new(alloc);
-    text.push_str("connect ")?;
-    text.push_str(name)?;
-    for _ in 0..SAID {
-        text.push_str("\r\nsay hi")?;
-    }
-    text.push_str("\r\nquit\r\n")?;
+    let sends = script(alloc, name, SAID)?;
+    let name = Vec::from_slice(alloc, name.as_bytes())?;
     Ok(Arrival::new(MemoryPeer {
-        name: Vec::from_slice(alloc, name.as_bytes())?,
-        sends: text.into_bytes(),
+        name,
+        sends,
         at: 0,
         got: Vec::new(alloc),
         has_ended: false,
         has_left: false,
     }))
+}
+
+// Returns the peers.
+fn arrivals(alloc: Global) -> Result<Vec<Arrival<MemoryPeer>>, AllocError> {
+    let mut arrivals = Vec::new(alloc);
+    for name in NAMES {
+        arrivals.push(peer(alloc, name)?)?;
+    }
+    Ok(arrivals)
 }
 
 // Returns the greatest version of the answers in a text.
@@ -101,14 +106,23 @@ fn greatest_version(text: &str) -> usize {
     greatest
 }
 
-// Serves the peers at the hall that `J` names. Returns the greatest version that any of them was told, and whether the
-// whole history is durable.
+// Returns the greatest version that any of the peers was told.
+fn greatest_told(alloc: Global, peers: &[MemoryPeer]) -> Result<usize, AllocError> {
+    let mut told = 0;
+    for peer in peers {
+        let text = String::from_utf8_lossy(alloc, &peer.got)?;
+        told = told.max(greatest_version(text.as_str()));
+    }
+    Ok(told)
+}
+
+// Serves the peers at the hall that `J` names. Returns the greatest version that any of them was told.
 fn serve<J: HallName + Send + Sync, D: Appends + Send + Drop, R: Threads + Wait + Sync + Abort>(
     rt: &R,
     alloc: Global,
     hall: NewHall,
     journal: Journal<Nameless, D>,
-) -> Result<(usize, bool), Fail>
+) -> Result<usize, Fail>
     requires cells { hall.cells ≡ J.cells }
     requires loaded { hall.loaded ≡ J.loaded }
     requires loadable { AreLoadable (length J.cells) J.loaded }
@@ -116,19 +130,10 @@ fn serve<J: HallName + Send + Sync, D: Appends + Send + Drop, R: Threads + Wait 
     requires count { journal.count ≡ length J.loaded }
     requires going { journal.has_failed ≡ false }
 {
-    let mut arrivals = Vec::new(alloc);
-    for name in NAMES {
-        arrivals.push(peer(alloc, name)?)?;
-    }
+    let arrivals = arrivals(alloc)?;
     let served = serve_together(rt, alloc, hall.with_name::<J>(), journal, arrivals)?;
-    let mut told = 0;
-    for peer in &served.peers {
-        let text = String::from_utf8_lossy(alloc, &peer.got)?;
-        told = told.max(greatest_version(text.as_str()));
-    }
-    let is_durable = !served.journal.has_failed();
-    assert!(rt; !is_durable || served.history.len() == 3 * (SAID + 1));
-    Ok((told, is_durable))
+    assert!(rt; served.journal.has_failed() || served.history.len() == 3 * (SAID + 1));
+    Ok(greatest_told(alloc, &served.peers)?)
 }
 
 // Serves the peers with a journal on this disk.
@@ -137,13 +142,51 @@ fn serve_on<D: Appends + Send + Drop, R: Threads + Wait + Sync + Abort>(
     alloc: Global,
     hall: NewHall,
     journal: Journal<Nameless, D>,
-) -> Result<(usize, bool), Fail>
+) -> Result<usize, Fail>
     requires loadable { AreLoadable (length hall.cells) hall.loaded }
     requires holds { Holds (D.kept journal.disk) hall.loaded }
     requires count { journal.count ≡ length hall.loaded }
     requires going { journal.has_failed ≡ false }
 {
     serve::<Brand, D, R>(rt, alloc, hall, journal)
+}
+
+// Returns an empty disk that fails after this many calls.
+fn store_for(alloc: Global, calls: u32) -> Result<Store, AllocError> {
+    let mut store = Store::new(alloc, Vec::new(alloc));
+    store.fates.push(Fate::Tears)?;
+    for _ in 0..calls {
+        store.fates.push(Fate::Done)?;
+    }
+    Ok(store)
+}
+
+// Serves the peers with a journal on this empty disk. Returns the greatest version that any of them was told, or `None`
+// if the journal can't begin.
+fn told_at<R: Threads + Wait + Sync + Abort>(
+    rt: &R,
+    alloc: Global,
+    store: &mut Store,
+) -> Result<Option<usize>, Fail> {
+    let disk = KnownDisk { store, unread: &[] };
+    let Ok((found, entries, _)) = found_in(alloc, disk) else {
+        panic!(rt; "nothing is found");
+    };
+    let hall = NewHall::resume(alloc, 1_024, entries)?;
+    match found.begin(alloc, &[]) {
+        Ok(journal) => Ok(Some(serve_on(rt, alloc, hall, journal)?)),
+        Err(_) => Ok(None),
+    }
+}
+
+// Checks that this version is there after a crash.
+fn check_left(rt: &impl Abort, alloc: Global, store: &Store, told: usize) -> Result<(), Fail> {
+    let left = store.crash(0, 0)?;
+    let Ok(front) = read_front(alloc, &left) else {
+        panic!(rt; "nothing is left");
+    };
+    assert!(rt; told <= front.entries.len());
+    Ok(())
 }
 
 // Serves the peers with a journal on a disk that fails after this many calls, and checks that what they were told is
@@ -153,29 +196,11 @@ fn check_served<R: Threads + Wait + Sync + Abort>(
     alloc: Global,
     calls: u32,
 ) -> Result<(), Fail> {
-    let mut store = Store::new(alloc, Vec::new(alloc));
-    store.fates.push(Fate::Tears)?;
-    for _ in 0..calls {
-        store.fates.push(Fate::Done)?;
+    let mut store = store_for(alloc, calls)?;
+    match told_at(rt, alloc, &mut store)? {
+        Some(told) => check_left(rt, alloc, &store, told),
+        None => Ok(()),
     }
-    let disk = KnownDisk {
-        store: &mut store,
-        unread: &[],
-    };
-    let Ok((found, entries, _)) = found_in(alloc, disk) else {
-        panic!(rt; "nothing is found");
-    };
-    let hall = NewHall::resume(alloc, 1_024, entries)?;
-    let Ok(journal) = found.begin(alloc, &[]) else {
-        return Ok(());
-    };
-    let (told, _) = serve_on(rt, alloc, hall, journal)?;
-    let left = store.crash(0, 0)?;
-    let Ok(front) = read_front(alloc, &left) else {
-        panic!(rt; "nothing is left");
-    };
-    assert!(rt; told <= front.entries.len());
-    Ok(())
 }
 
 #[test]

@@ -1,20 +1,31 @@
-//! Sessions: the output for two guests of one hall and its order, the session of a script, and the single-user desk.
-//! All are on one thread.
+//! Sessions: the output for two guests of one hall, and its order. All are on one thread.
 
 ghost use Rattle.std.specs.Prelude.{◌≡◌};
 
-use crate::lines::{act, act_alone};
-use crate::rows::{push_sent, push_text, same, split_word};
-use mud_hall::{Desk, Fault, Hall, HallName, NewHall, Reply, Solo};
-use mud_io::{Sink, Source};
-use mud_session::{ScriptLimits, Seat, Session, SessionFault, script};
-use mud_words::parse;
+use crate::lines::act;
+use crate::rows::same;
+use mud_hall::{Desk, Fault, Hall, HallName, NewHall};
+use mud_session::{Seat, Session, SessionFault};
 use std::alloc::{AllocError, Global};
 use std::marker::Brand;
 use std::process::Abort;
 use std::sync::Wait;
 use std::test::Fail;
 use std::thread::Threads;
+
+// Appends output, with a `;` in place of each line end.
+fn push_sent(alloc: Global, bytes: &[u8], out: &mut String) -> Result<(), AllocError> {
+    let text = String::from_utf8_lossy(alloc, bytes)?;
+    out.push_str(text.replace(alloc, "\r\n", ";")?.as_str())
+}
+
+// Returns the first word of a text, and the text after it.
+fn split_word(text: &str) -> (&str, &str) {
+    match text.split_once(' ') {
+        Some(parts) => parts,
+        None => (text, ""),
+    }
+}
 
 // A guest's session, and its desk.
 #[derive(Drop)]
@@ -238,116 +249,5 @@ fn hall(alloc: Global) -> Result<NewHall, AllocError> {
 fn each_line_is_told_once(rt: HostRuntime) -> Result<(), Fail> {
     let hall = hall(rt.alloc())?;
     assert!(rt; is_told_once_in::<Brand, _>(&rt, rt.alloc(), hall)?);
-    Ok(())
-}
-
-// The replies and answers of the single-user desk to lines that act and lines that ask.
-const SOLO: &str = "
-act @dig north|south to \"Library\" => dug room #2, exit #3, exit back #4
-act route to #2 => question
-ask route to #2 => route #0 to #2 cost 1 by #3
-act foo => I couldn't understand that.
-ask look => The Hall #0 /   exits north #3
-act connect wizard => welcome #1
-act say no => fault
-ask @version => version
-";
-
-// Appends a reply.
-fn push_reply(reply: &Result<Reply, Fault>, out: &mut String) -> Result<(), AllocError> {
-    match reply {
-        Ok(Reply::Accepted { text, .. }) => out.push_str(text.as_str()),
-        Ok(Reply::Became { text, .. }) => out.push_str(text.as_str()),
-        Ok(Reply::Refused { text, .. }) => out.push_str(text.as_str()),
-        Ok(Reply::Question { .. }) => out.push_str("question"),
-        Err(_) => out.push_str("fault"),
-    }
-}
-
-// Appends the reply to a line that acts.
-fn push_acted<R: AllocGlobal>(
-    rt: &R,
-    solo: &mut Solo,
-    line: &str,
-    out: &mut String,
-) -> Result<(), AllocError> {
-    push_reply(&act_alone(rt, solo, line), out)
-}
-
-// Appends the answer to a line that asks.
-fn push_asked<R: Threads + Wait + AllocGlobal + Sync>(
-    rt: &R,
-    alloc: Global,
-    solo: &mut Solo,
-    line: &str,
-    out: &mut String,
-) -> Result<(), AllocError> {
-    let said = parse(alloc, line)?;
-    push_text(alloc, solo.ask(rt, &said)?.text.as_str(), out)
-}
-
-// Checks a row.
-fn check_solo<R: Threads + Wait + AllocGlobal + Sync + Abort>(
-    rt: &R,
-    alloc: Global,
-    solo: &mut Solo,
-    row: &str,
-    found: &mut String,
-) -> Result<(), AllocError> {
-    if let Some((asked, wanted)) = row.split_once(" => ") {
-        found.clear();
-        match split_word(asked) {
-            ("act", line) => push_acted(rt, solo, line, found)?,
-            (_, line) => push_asked(rt, alloc, solo, line, found)?,
-        }
-        same(rt, asked, found.as_str(), wanted);
-    }
-    Ok(())
-}
-
-#[test]
-fn the_desk_of_one_user(rt: HostRuntime) -> Result<(), Fail> {
-    let mut solo = Solo::open(rt.alloc(), 1)?;
-    let mut found = String::new(rt.alloc());
-    for row in SOLO.split('\n') {
-        check_solo(&rt, rt.alloc(), &mut solo, row, &mut found)?;
-    }
-    Ok(())
-}
-
-// The input of a script.
-const LINES: &[u8] = b"@dig north|south to \"Library\"\nroute to #2\n";
-
-const WRITTEN: &str = "[1] dug room #2, exit #3, exit back #4;[1] route #0 to #2 cost 1 by #3;";
-
-// Returns the output of a script.
-fn script_text<R: Threads + Wait + AllocGlobal + Sync>(
-    rt: &R,
-    alloc: Global,
-) -> Result<String, Fail> {
-    let mut bytes = Vec::new(alloc);
-    script(
-        rt,
-        alloc,
-        &mut Source::new(LINES),
-        &mut Sink::new(&mut bytes),
-        ScriptLimits {
-            capacity: 16,
-            workers: 0,
-        },
-    )?;
-    let mut text = String::new(alloc);
-    push_sent(alloc, &bytes, &mut text)?;
-    Ok(text)
-}
-
-#[test]
-fn a_script_is_answered(rt: HostRuntime) -> Result<(), Fail> {
-    same(
-        &rt,
-        "script",
-        script_text(&rt, rt.alloc())?.as_str(),
-        WRITTEN,
-    );
     Ok(())
 }

@@ -1,20 +1,18 @@
 //! Several workers: they work at the same time, which no contract states, and find the labels.
 
 ghost use Rattle.std.specs.Prelude.{◌≡◌};
-ghost use Rattle.mud_roads.specs.Passable.{IsTraveller};
 
-use crate::histories::WAY_ROUND;
 use crate::lines::act;
 use crate::rows::same;
-use crate::search::{CROSSING, LABELS, text_of};
 use crate::village::world;
 use mud_chron::{ChronFault, read_history};
 use mud_hall::{Hall, HallName, NewHall};
-use mud_roads::Traveller;
-use mud_search::{Gate, Labels, labels, labels_alone};
+use mud_roads::{Label, Traveller};
+use mud_search::{Gate, Labels, labels};
 use mud_words::parse;
 use mud_world::World;
 use std::alloc::{AllocError, Global};
+use std::fmt::Write;
 use std::marker::Brand;
 use std::process::Abort;
 use std::slice;
@@ -22,6 +20,26 @@ use std::sync::Wait;
 use std::sync::atomic::{AtomicU64, Ordering};
 use std::test::Fail;
 use std::thread::Threads;
+
+// Five exits: #3 from #0 to #2 at cost 9, #5 from #0 to #4 at 3, and #6 from #4 to #2 at 4. The exits #8 to #7 and #9
+// to #0 leave #2, at 1 each.
+const CROSSING: &str = "mud history 2
+1 1 dig #1 new \"A\" out \"a\"
+2 1 cost #1 #3 9
+3 1 dig #1 new \"B\" out \"b\"
+4 1 cost #1 #5 3
+5 1 walk #1 #5
+6 1 dig #1 old #2 out \"c\"
+7 1 cost #1 #6 4
+8 1 walk #1 #6
+9 1 dig #1 new \"D\" out \"d\"
+10 1 dig #1 old #0 out \"e\"
+11 1 walk #1 #9
+end 11
+";
+
+// The labels of the crossing from #0: each room with its cost and its number of exits.
+const LABELS: &str = "#0:0/0 #2:7/2 #4:3/1 #7:8/3 ";
 
 // Two ways of equal cost lead from #0 to #6. The answer is the one with the lower last exit.
 const TWO_WAYS: &str = "mud history 2
@@ -103,6 +121,25 @@ impl Gate for Barrier {
     }
 }
 
+// Appends the label of a room.
+fn push_label(room: u32, label: Option<Label>, out: &mut String) -> Result<(), AllocError> {
+    match label {
+        Some(label) => write!(out, "#{room}:{}/{} ", label.cost, label.exits),
+        None => Ok(()),
+    }
+}
+
+// Returns the labels of the first member at the first twenty numbers. Numbers past the last room have none.
+fn text_of(alloc: Global, labels: &Labels) -> Result<String, AllocError> {
+    let mut text = String::new(alloc);
+    for room in 0..20 {
+        push_label(room, labels.get(0, room), &mut text)?;
+    }
+    push_label(0, labels.get(1, 0), &mut text)?;
+    push_label(u32::MAX, labels.get(0, u32::MAX), &mut text)?;
+    Ok(text)
+}
+
 // Returns the labels of the wizard's rooms that workers find.
 fn wizards_labels<R: Threads + Wait + AllocGlobal + Sync + Abort>(
     rt: &R,
@@ -180,41 +217,6 @@ fn eight_workers_may_run_out_of_memory(rt: HostRuntime) -> Result<(), Fail> {
         Err(_) => find_labels(&rt, alloc, CROSSING, 8, &Barrier::new())?,
     };
     same(&rt, "labels", text.as_str(), LABELS);
-    Ok(())
-}
-
-// Returns the labels that the caller's thread finds.
-fn text_alone(alloc: Global, world: &World, traveller: &Traveller) -> Result<String, AllocError>
-    requires { IsTraveller world.now traveller.now }
-{
-    text_of(
-        alloc,
-        &labels_alone(alloc, world, slice::from_ref(traveller))?,
-    )
-}
-
-// Returns the number of a room's exits that are open to a traveller.
-fn ways(alloc: Global, world: &World, traveller: &Traveller, room: u32) -> Result<usize, AllocError>
-    requires { IsTraveller world.now traveller.now }
-{
-    Ok(traveller.leave(alloc, world, room)?.len())
-}
-
-// Returns the labels that the caller's thread finds for the wizard, who can leave the hall by two exits.
-fn found_alone(rt: &impl Abort, alloc: Global, world: &World) -> Result<String, AllocError> {
-    assert!(rt; world.is_player(1));
-    let wizard = Traveller::of(alloc, world, 1)?;
-    assert!(rt; ways(alloc, world, &wizard, 0)? == 2);
-    text_alone(alloc, world, &wizard)
-}
-
-// The labels of the rooms if the detour is cheaper.
-const OF_WAY_ROUND: &str = "#0:0/0 #2:6/6 #4:1/1 #6:2/2 #8:3/3 #10:4/4 #12:5/5 ";
-
-#[test]
-fn labels_by_one_thread(rt: HostRuntime) -> Result<(), Fail> {
-    let found = found_alone(&rt, rt.alloc(), &world(rt.alloc(), WAY_ROUND)?)?;
-    same(&rt, "labels", found.as_str(), OF_WAY_ROUND);
     Ok(())
 }
 

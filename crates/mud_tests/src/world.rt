@@ -1,11 +1,12 @@
-//! Worlds: the refusals of changes that no line can ask for, a holding, and a copy.
+//! The refusals of changes that no line can ask for.
 
-use crate::rows::{Answers, check_rows};
+use crate::rows::same;
 use crate::village::{entry, world};
 use mud_chron::ChronFault;
 use mud_rules::refusal_text;
-use mud_world::{Change, Holding, World};
-use std::alloc::{AllocError, Global};
+use mud_world::{Change, World};
+use std::alloc::Global;
+use std::process::Abort;
 use std::test::Fail;
 
 // The hall #0 with the wizard #1, who carries the box #5 with the coin #6 in it, and with Bob #7, who carries the hat
@@ -90,95 +91,19 @@ fn refusal_of(alloc: Global, world: &World, change: &str) -> Result<&'static str
     Ok(refusal_word(world, entry(alloc, change)?.change()))
 }
 
-// A world that answers with the refusals of changes.
-#[derive(Drop)]
-struct Village {
-    alloc: Global,
-    world: World,
-}
-
-impl Answers for Village {
-    fn answer(&mut self, asked: &str, out: &mut String) -> Result<(), Fail> {
-        Ok(out.push_str(refusal_of(self.alloc, &self.world, asked)?)?)
+// Checks the row `CHANGE => REFUSAL`.
+fn check_row(rt: &impl Abort, alloc: Global, world: &World, row: &str) -> Result<(), ChronFault> {
+    if let Some((asked, wanted)) = row.split_once(" => ") {
+        same(rt, asked, refusal_of(alloc, world, asked)?, wanted);
     }
+    Ok(())
 }
 
 #[test]
 fn what_refuses_changes(rt: HostRuntime) -> Result<(), Fail> {
-    let alloc = rt.alloc();
-    let world = world(alloc, VILLAGE)?;
-    check_rows(&rt, alloc, ROWS, &mut Village { alloc, world })
-}
-
-// The key #4 lies in the bag #5, and the bag in the box #6, which the wizard carries. The exit to the vault #2 needs
-// the key.
-const BOX: &str = "mud history 2
-1 1 dig #1 new \"Vault\" out \"north\"
-2 1 make #1 \"key\"
-3 1 make #1 \"bag\"
-4 1 make #1 \"box\"
-5 1 move #1 #4 #5
-6 1 move #1 #5 #6
-7 1 lock #1 #3 #4
-end 7
-";
-
-// The history of `BOX`, and at its end the box is dropped.
-const DROPPED: &str = "mud history 2
-1 1 dig #1 new \"Vault\" out \"north\"
-2 1 make #1 \"key\"
-3 1 make #1 \"bag\"
-4 1 make #1 \"box\"
-5 1 move #1 #4 #5
-6 1 move #1 #5 #6
-7 1 lock #1 #3 #4
-8 1 move #1 #6 #0
-end 8
-";
-
-// Returns whether the key is held, and the exit is unlocked.
-fn is_open(world: &World, held: &Holding) -> bool {
-    held.has(4) && world.unlocked(held, 3)
-}
-
-// Returns whether that is so for the wizard.
-fn has_way(world: &World) -> Result<bool, AllocError> {
-    Ok(is_open(world, &world.carried(1)?))
-}
-
-fn has_way_in(alloc: Global, history: &str) -> Result<bool, ChronFault> {
-    Ok(has_way(&world(alloc, history)?)?)
-}
-
-#[test]
-fn what_is_carried(rt: HostRuntime) -> Result<(), Fail> {
-    assert!(rt; has_way_in(rt.alloc(), BOX)? && !has_way_in(rt.alloc(), DROPPED)?);
-    Ok(())
-}
-
-// The wizard has made seven things.
-const SEVEN: &str = "mud history 2
-1 1 make #1 \"a\"
-2 1 make #1 \"b\"
-3 1 make #1 \"c\"
-4 1 make #1 \"d\"
-5 1 make #1 \"e\"
-6 1 make #1 \"f\"
-7 1 make #1 \"g\"
-end 7
-";
-
-// Returns the next number of a copy.
-fn next_of_copy(world: &World) -> Result<u32, AllocError> {
-    Ok(world.copy()?.next_number())
-}
-
-fn next_in_copy(alloc: Global, history: &str) -> Result<u32, ChronFault> {
-    Ok(next_of_copy(&world(alloc, history)?)?)
-}
-
-#[test]
-fn a_copy_is_the_same_world(rt: HostRuntime) -> Result<(), Fail> {
-    assert!(rt; next_in_copy(rt.alloc(), SEVEN)? == 9);
+    let world = world(rt.alloc(), VILLAGE)?;
+    for row in ROWS.split('\n') {
+        check_row(&rt, rt.alloc(), &world, row)?;
+    }
     Ok(())
 }

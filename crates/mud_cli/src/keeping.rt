@@ -2,7 +2,7 @@
 
 use crate::fault::CommandFault;
 use crate::form::program_of;
-use crate::keeping_forms::FORMS;
+use crate::keeping_forms::forms;
 use crate::matches::{Unfit, fit, matched};
 use clap::error::ErrorKind;
 use clap::{ArgMatches, Command};
@@ -301,5 +301,5 @@ pub fn keeping_of<'a>(alloc: Global, words: &'a [String]) -> Result<Keeping<'a>,
 // Builds the `clap` command.
 fn command<'a>(alloc: Global) -> Result<Command<'a>, AllocError> {
     let about = "Recovers, shortens, shows, surveys, compares and draws the history of a world";
-    program_of(alloc, "mud_keep", about, &FORMS)
+    program_of(alloc, "mud_keep", about, forms())
 }

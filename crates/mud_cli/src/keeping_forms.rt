@@ -3,8 +3,13 @@
 use crate::argument::{Argument, FLAG, NUMBER, OPTION, PLACE, PLACES};
 use crate::form::Form;
 
+// Returns the forms of `mud_keep`.
+pub(crate) fn forms() -> &'static [Form<'static>] {
+    &FORMS
+}
+
 // The forms of `mud_keep`.
-pub(crate) static FORMS: [Form<'static>; 10] = [
+static FORMS: [Form<'static>; 10] = [
     Form {
         name: "recover",
         about: "Prints the history that a journal holds, with its end",

@@ -1,6 +1,6 @@
 //! The search for a shorter history: it builds the world again, and learns from each attempt.
 
-use crate::column::Column;
+use crate::column::{Column, Lists};
 use crate::hauls::Hauls;
 use crate::makings::{Making, Numbers};
 use crate::nests::Nests;
@@ -8,13 +8,14 @@ use crate::packs::{Packs, Special};
 use crate::postman::Postman;
 use crate::site::{Act, Site};
 use crate::spelling::{count_rest, spell};
-use crate::stops::{Delivery, stops_of};
+use crate::stops::{Delivery, Stop, stops_of};
 use crate::story::{FIRST, Story};
 use crate::unbuilt::Unbuilt;
 use mud_chron::Entry;
 use mud_key::Node;
 use mud_world::{Record, World};
 use std::alloc::{AllocError, Global};
+use std::mem;
 
 // The greatest number of attempts to build the world.
 const MOST_ATTEMPTS: usize = 6;
@@ -145,11 +146,20 @@ fn finish(site: &mut Site<'_>) -> Result<Vec<u32>, Unbuilt> {
     send_home(site)?;
     let mut postman = Postman::new(site)?;
     postman.serve(site)?;
-    let Postman { hard, .. } = postman;
-    if hard.is_empty() {
+    if postman.hard.is_empty() {
         put_in(site)?;
     }
-    Ok(hard)
+    Ok(mem::replace(&mut postman.hard, Vec::new(site.alloc)))
+}
+
+// Makes all objects, and brings all things and players to their places. Returns the things that nobody can bring.
+fn build_all(
+    site: &mut Site<'_>,
+    makings: &[Making],
+    deliveries: &[Delivery],
+) -> Result<Vec<u32>, Unbuilt> {
+    build(site, makings, deliveries)?;
+    finish(site)
 }
 
 impl Search<'_> {
@@ -159,17 +169,25 @@ impl Search<'_> {
             .sort_by_key(|step: &Delivery| -> usize { step.time })?;
         let story = self.numbers.story;
         let stops = stops_of(self.alloc, story, self.makings, &self.deliveries)?;
+        self.attempt_by(packs, &stops)
+    }
+
+    // Tries to build the world with players who stop so.
+    fn attempt_by<'s>(
+        &'s self,
+        packs: &'s Packs,
+        stops: &'s Lists<Stop>,
+    ) -> Result<Attempt, Unbuilt> {
         let mut site = Site::new(
             self.alloc,
             self.goal,
             self.nests,
             self.numbers,
             packs,
-            &stops,
+            stops,
         )?;
-        build(&mut site, self.makings, &self.deliveries)?;
-        let hard = finish(&mut site)?;
-        let Site { acts, .. } = site;
+        let hard = build_all(&mut site, self.makings, &self.deliveries)?;
+        let acts = mem::replace(&mut site.acts, Vec::new(self.alloc));
         Ok(Attempt { acts, hard })
     }
 
@@ -213,7 +231,7 @@ impl Search<'_> {
     }
 }
 
-// Returns the acts that build the world of a story.
+// Returns the acts that make these objects, and bring all to their places.
 fn acts_for(
     alloc: Global,
     goal: &World,
@@ -246,6 +264,15 @@ fn acts_for(
     search.try_all()
 }
 
+// Returns acts that build the world of a story.
+fn acts_of(alloc: Global, goal: &World, story: &Story) -> Result<Vec<Act>, Unbuilt> {
+    let nests = Nests::of(alloc, goal)?;
+    let named = named_in(alloc, goal)?;
+    let numbers = numbers_of(alloc, goal, story, &named)?;
+    let makings = numbers.makings(alloc)?;
+    acts_for(alloc, goal, &nests, &numbers, &makings)
+}
+
 // Returns the number of acts that do not recycle.
 fn size_of(acts: &[Act]) -> usize {
     acts.iter()
@@ -261,11 +288,7 @@ fn built_from(
     most: usize,
 ) -> Result<Option<Vec<Entry>>, Unbuilt> {
     let story = Story::of(alloc, entries, goal.next_number())?;
-    let nests = Nests::of(alloc, goal)?;
-    let named = named_in(alloc, goal)?;
-    let numbers = numbers_of(alloc, goal, &story, &named)?;
-    let makings = numbers.makings(alloc)?;
-    let acts = acts_for(alloc, goal, &nests, &numbers, &makings)?;
+    let acts = acts_of(alloc, goal, &story)?;
     if size_of(&acts).saturating_add(count_rest(goal)) >= most {
         return Ok(None);
     }

@@ -65,7 +65,6 @@ impl Order {
 }
 
 /// The player #1, who collects things and brings them to their rooms.
-#[derive(Drop)]
 pub(crate) struct Postman {
     alloc: Global,
     // the ways from the postman's room, those to it, and those to the next room
@@ -75,6 +74,25 @@ pub(crate) struct Postman {
     order: Order,
     /// The things that nobody can bring.
     pub(crate) hard: Vec<u32>,
+}
+
+// Written out: see the one of `Site`.
+impl Drop for Postman {
+    fn drop(self) {
+        let Postman {
+            alloc: _,
+            there,
+            back,
+            next,
+            order,
+            hard,
+        } = self;
+        drop(there);
+        drop(back);
+        drop(next);
+        drop(order);
+        drop(hard);
+    }
 }
 
 // Returns the things that their makers still have, and that belong elsewhere.
@@ -105,23 +123,32 @@ fn jobs_of(site: &Site<'_>) -> Result<Vec<Job>, AllocError> {
 }
 
 impl Postman {
-    /// Returns the postman, who knows the ways from their room.
-    pub(crate) fn new(site: &Site<'_>) -> Result<Postman, AllocError> {
-        let alloc = site.alloc;
-        let count = site.story.count;
-        let mut postman = Postman {
+    // Returns the postman, who knows no ways yet.
+    fn unplaced(alloc: Global, count: u32) -> Result<Postman, AllocError> {
+        Ok(Postman {
             alloc,
             there: Tree::new(alloc, Heading::There, count)?,
             back: Tree::new(alloc, Heading::Back, count)?,
             next: Tree::new(alloc, Heading::Back, count)?,
             order: Order::new(alloc, count)?,
             hard: Vec::new(alloc),
-        };
+        })
+    }
+
+    // Finds the ways from the postman's room, and those to it.
+    fn learn(&mut self, site: &Site<'_>) -> Result<(), AllocError> {
         let room = site.rooms.get(WIZARD);
-        site.roads.grow_all(&mut postman.there, room)?;
-        site.roads.grow_all(&mut postman.back, room)?;
-        postman.order.measure(site, &postman.there);
-        postman.order.number(site, &postman.there);
+        site.roads.grow_all(&mut self.there, room)?;
+        site.roads.grow_all(&mut self.back, room)?;
+        self.order.measure(site, &self.there);
+        self.order.number(site, &self.there);
+        Ok(())
+    }
+
+    /// Returns the postman, who knows the ways from their room.
+    pub(crate) fn new(site: &Site<'_>) -> Result<Postman, AllocError> {
+        let mut postman = Postman::unplaced(site.alloc, site.story.count)?;
+        postman.learn(site)?;
         Ok(postman)
     }
 

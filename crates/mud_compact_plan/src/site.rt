@@ -49,7 +49,6 @@ enum Parceled {
 }
 
 /// A world that is built.
-#[derive(Drop)]
 pub(crate) struct Site<'a> {
     pub(crate) alloc: Global,
     pub(crate) story: &'a Story,
@@ -76,6 +75,44 @@ pub(crate) struct Site<'a> {
     // the next number
     next: u32,
     pub(crate) acts: Vec<Act>,
+}
+
+// Written out, so that a proof about dropping a site has one step instead of one for each list.
+impl Drop for Site<'_> {
+    fn drop(self) {
+        let Site {
+            alloc: _,
+            story: _,
+            goal: _,
+            nests: _,
+            numbers: _,
+            packs: _,
+            stops: _,
+            roads,
+            eraser,
+            tree,
+            rooms,
+            places,
+            settled,
+            delivered,
+            waiting,
+            halts,
+            passed,
+            next: _,
+            acts,
+        } = self;
+        drop(roads);
+        drop(eraser);
+        drop(tree);
+        drop(rooms);
+        drop(places);
+        drop(settled);
+        drop(delivered);
+        drop(waiting);
+        drop(halts);
+        drop(passed);
+        drop(acts);
+    }
 }
 
 impl<'a> Site<'a> {

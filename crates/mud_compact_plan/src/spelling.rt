@@ -15,6 +15,7 @@ use mud_key::limits::LAST_NUMBER;
 use mud_key::{Name, Names, NamesFault};
 use mud_world::{Change, Deed, Doors, MOST_COST, Record, Target, World};
 use std::alloc::{AllocError, Global};
+use std::mem;
 
 // The desk of a change without an old entry.
 const DESK: u32 = 1;
@@ -54,7 +55,6 @@ fn names_of(alloc: Global, text: &str) -> Result<Names, Unbuilt> {
 }
 
 /// The entries of acts.
-#[derive(Drop)]
 pub(crate) struct Spelling<'a> {
     alloc: Global,
     story: &'a Story,
@@ -63,6 +63,23 @@ pub(crate) struct Spelling<'a> {
     // the objects that are recycled already
     recycled: Column<bool>,
     entries: Vec<Entry>,
+}
+
+// Written out: see the one of `Site`.
+impl Drop for Spelling<'_> {
+    fn drop(self) {
+        let Spelling {
+            alloc: _,
+            story: _,
+            goal: _,
+            spare,
+            recycled,
+            entries,
+        } = self;
+        drop(spare);
+        drop(recycled);
+        drop(entries);
+    }
 }
 
 impl<'a> Spelling<'a> {
@@ -233,6 +250,16 @@ impl<'a> Spelling<'a> {
         }
         Ok(())
     }
+
+    // Adds the entries of the acts, and those that complete the world.
+    fn spell(&mut self, acts: &[Act]) -> Result<(), Unbuilt> {
+        self.rename_first(0, HALL)?;
+        self.rename_first(1, PLAYER)?;
+        self.act_all(acts)?;
+        self.settle_all()?;
+        self.lock_all()?;
+        self.clear()
+    }
 }
 
 // Returns how many entries an object takes at the end. An object that is gone is recycled.
@@ -256,19 +283,13 @@ pub(crate) fn count_rest(goal: &World) -> usize {
 
 /// Returns the entries of acts towards a world, and of the changes that complete it: names, costs, keys, and recycled
 /// objects.
-pub(crate) fn spell(
+pub(crate) fn spell<'s>(
     alloc: Global,
-    story: &Story,
-    goal: &World,
+    story: &'s Story,
+    goal: &'s World,
     acts: &[Act],
 ) -> Result<Vec<Entry>, Unbuilt> {
     let mut spelling = Spelling::new(alloc, story, goal)?;
-    spelling.rename_first(0, HALL)?;
-    spelling.rename_first(1, PLAYER)?;
-    spelling.act_all(acts)?;
-    spelling.settle_all()?;
-    spelling.lock_all()?;
-    spelling.clear()?;
-    let Spelling { entries, .. } = spelling;
-    Ok(entries)
+    spelling.spell(acts)?;
+    Ok(mem::replace(&mut spelling.entries, Vec::new(alloc)))
 }

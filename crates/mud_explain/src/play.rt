@@ -249,14 +249,8 @@ fn turn_at<J: HallName, R: Wait>(
         × Turns (length J.cells) turn.entry desk.old desk.new told) }
 {
     match turn {
-        Turn::Act(line) => match hall.act(rt, desk, &parse(alloc, line)?) {
-            Ok(reply) => push_reply(out, &reply),
-            Err(fault) => push_fault(out, fault),
-        },
-        Turn::Ask(line) => match desk.ask(hall, &parse(alloc, line)?) {
-            Ok(answer) => push_answer(out, &answer),
-            Err(fault) => push_fault(out, fault),
-        },
+        Turn::Act(line) => act_at(rt, alloc, hall, desk, line, out),
+        Turn::Ask(line) => ask_at(alloc, hall, desk, line, out),
         Turn::See => match desk.see(hall) {
             Ok(()) => push_seen(out, desk.seen()),
             Err(fault) => push_fault(out, fault),
@@ -267,5 +261,40 @@ fn turn_at<J: HallName, R: Wait>(
             desk.guest();
             out.push_str("guest\n")
         }
+    }
+}
+
+// Acts on a line, and appends the reply.
+fn act_at<J: HallName, R: Wait>(
+    rt: &R,
+    alloc: Global,
+    hall: &Hall<J>,
+    desk: &mut Desk<J>,
+    line: &str,
+    out: &mut String,
+) -> Result<(), AllocError>
+    ensures { OnOk result ((told : List ℕ) × (string_bytes out.new ≡ string_bytes out.old ++ told)
+        × Turns (length J.cells) (Turn.Act line.entry) desk.old desk.new told) }
+{
+    match hall.act(rt, desk, &parse(alloc, line)?) {
+        Ok(reply) => push_reply(out, &reply),
+        Err(fault) => push_fault(out, fault),
+    }
+}
+
+// Asks a line, and appends the answer.
+fn ask_at<J: HallName>(
+    alloc: Global,
+    hall: &Hall<J>,
+    desk: &mut Desk<J>,
+    line: &str,
+    out: &mut String,
+) -> Result<(), AllocError>
+    ensures { OnOk result ((told : List ℕ) × (string_bytes out.new ≡ string_bytes out.old ++ told)
+        × Turns (length J.cells) (Turn.Ask line.entry) desk.old desk.new told) }
+{
+    match desk.ask(hall, &parse(alloc, line)?) {
+        Ok(answer) => push_answer(out, &answer),
+        Err(fault) => push_fault(out, fault),
     }
 }

@@ -1,8 +1,10 @@
 //! Acting: lines that may change the world.
 
-ghost use Rattle.std.specs.Prelude.{◌≡◌, ◌≢◌, [], length};
+ghost use Rattle.std.specs.Prelude.{◌≡◌, ◌≢◌, ◌⊎◌, [], length, IfErr, IfOk};
+ghost use Rattle.std.specs.Cow.{cow_str_bytes};
 ghost use Rattle.mud_words.specs.Line.{line_of};
 ghost use Rattle.mud_rules.specs.Outcome.{IsLawful};
+ghost use Rattle.mud_rules.specs.Replies.{reply_text};
 ghost use Rattle.mud_hall.specs.Notices.{world_after};
 ghost use Rattle.mud_hall.specs.Desk.{pending};
 ghost use Rattle.mud_hall.specs.Replies.{Failed, reply_shown, Comes, Stores, verdict_on};
@@ -60,10 +62,7 @@ impl<J: HallName> Desk<J> {
         ensures stores { Stores (length row.now) self.old.state change (reply_shown result) self.new.state }
         ensures told { reply_shown result ≢ Failed Fault.OutOfMemory → pending self.new ≡ [] }
     {
-        if self.seen() == row.capacity() {
-            return Err(Fault::HistoryFull);
-        }
-        let text = reply_text(alloc, self.world(), &change)?;
+        let text = self.text(alloc, row, &change)?;
         let actor = change.actor;
         let entry = Box::new(alloc, Entry::new(self.number, change))?;
         let inner = &mut *self.inner;
@@ -77,5 +76,25 @@ impl<J: HallName> Desk<J> {
             Err((_, RowFault::HistoryFull)) => Err(Fault::HistoryFull),
             Err((_, RowFault::Unpublished)) => Err(Fault::Unpublished),
         }
+    }
+
+    // Returns the reply to a change, if the history has room for one more.
+    fn text(
+        &self,
+        alloc: Global,
+        row: &Row,
+        change: &Change,
+    ) -> Result<CowStr<'static, Global>, Fault>
+        requires row { row.now ≡ J.cells }
+        requires all { self.now.at ≡ length self.now.state.seen }
+        ensures text { IfOk result
+            (λ text. cow_str_bytes text ≡ reply_text (world_after self.now.state.seen) change.now) }
+        ensures fault { IfErr result (λ f. (f ≡ Fault.OutOfMemory)
+            ⊎ ((f ≡ Fault.HistoryFull) × (length self.now.state.seen ≡ length row.now))) }
+    {
+        if self.seen() == row.capacity() {
+            return Err(Fault::HistoryFull);
+        }
+        Ok(reply_text(alloc, self.world(), change)?)
     }
 }

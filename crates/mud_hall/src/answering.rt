@@ -44,9 +44,31 @@ pub(crate) fn respond<S: Guide>(
     ensures response { IfOk result
         (IsResponse world.now version player (decision world.now player (line_of said.now))) }
 {
-    let Ok(verdict) = &decide(alloc, world, player, said) else {
-        return Err(AllocError);
-    };
+    match decide(alloc, world, player, said) {
+        Ok(verdict) => respond_to(by, alloc, world, version, player, traveller, &verdict),
+        Err(fault) => Err(fault),
+    }
+}
+
+// Returns the answer to the verdict on a line. It keeps the traveller of a player who asks for a route.
+fn respond_to<S: Guide>(
+    by: &S,
+    alloc: Global,
+    world: &World,
+    version: u32,
+    player: Option<u32>,
+    traveller: &mut Option<Traveller>,
+    verdict: &Verdict,
+) -> Result<Option<Answer>, AllocError>
+    requires ready { S.ready by.now }
+    requires version { version ≤ MOST_ENTRIES }
+    requires seated { IfSome player (λ p. IsTrue (is_player world.now p)) }
+    requires known { IfSome traveller.old (IsFollower world.now) }
+    requires lawful { IsLawful world.now player verdict.now }
+    requires asked { (q : _) → verdict.now ≡ Verdict.Ask q → CanAsk player q }
+    ensures known { IfSome traveller.new (IsFollower world.now) }
+    ensures response { IfOk result (IsResponse world.now version player verdict.now) }
+{
     find_traveller(alloc, world, player, traveller, verdict)?;
     let sight = Sight {
         alloc,

@@ -1,7 +1,7 @@
 //! Reads the file of the bans.
 
 use mud_bans::{AddFault, Bans, Network};
-use std::alloc::AllocError;
+use std::alloc::{AllocError, Global};
 use std::fs::{self, File};
 use std::io::{self, Read};
 use std::rt::Files;
@@ -75,24 +75,33 @@ fn add_lines(bans: &mut Bans, text: &str) -> Result<(), NoBans> {
     Ok(())
 }
 
+// Returns the bans of a text.
+fn bans_of(alloc: Global, text: &str) -> Result<Bans, NoBans> {
+    let mut bans = Bans::new(alloc);
+    add_lines(&mut bans, text)?;
+    Ok(bans)
+}
+
+// Returns the bans of an open file.
+fn bans_in<R: AllocGlobal>(rt: &R, file: &mut File) -> Result<Bans, NoBans> {
+    let bytes = bytes_of(rt, file)?;
+    match std::str::from_utf8(&bytes) {
+        Ok(text) => bans_of(rt.alloc(), text),
+        Err(_) => Err(NoBans::Line(1)),
+    }
+}
+
 /// Reads the bans of a file. The list is empty if the file does not exist, or if no file is named.
 pub fn read_bans<R: Files<File = File> + AllocGlobal>(
     rt: &R,
     name: Option<&str>,
 ) -> Result<Bans, NoBans> {
-    let mut bans = Bans::new(rt.alloc());
     let Some(name) = name else {
-        return Ok(bans);
+        return Ok(Bans::new(rt.alloc()));
     };
-    let mut file = match fs::open(rt, name) {
-        Ok(file) => file,
-        Err(error) if error.kind() == io::ErrorKind::NotFound => return Ok(bans),
-        Err(error) => return Err(NoBans::File(error.kind())),
-    };
-    let bytes = bytes_of(rt, &mut file)?;
-    match std::str::from_utf8(&bytes) {
-        Ok(text) => add_lines(&mut bans, text)?,
-        Err(_) => return Err(NoBans::Line(1)),
+    match fs::open(rt, name) {
+        Ok(mut file) => bans_in(rt, &mut file),
+        Err(error) if error.kind() == io::ErrorKind::NotFound => Ok(Bans::new(rt.alloc())),
+        Err(error) => Err(NoBans::File(error.kind())),
     }
-    Ok(bans)
 }

@@ -180,6 +180,23 @@ fn check_name<R: Files<File = File> + Net>(rt: &R, name: &str) -> io::Result<()>
     }
 }
 
+// Binds a socket inside a new folder, and then renames it.
+fn bind_inside<R: Files<File = File> + Net>(
+    rt: &R,
+    folder: &str,
+    inside: &str,
+    name: &str,
+) -> io::Result<UnixListener> {
+    let _ = fs::remove_file(rt, inside);
+    let _ = fs::remove_dir(rt, folder);
+    DirBuilder::new().mode(FOLDER_MODE).create(rt, folder)?;
+    let listener = UnixListener::bind(rt, inside)?;
+    fs::set_permissions(rt, inside, fs::Permissions::from_mode(SOCKET_MODE))?;
+    fs::rename(rt, inside, name)?;
+    fs::remove_dir(rt, folder)?;
+    Ok(listener)
+}
+
 /// Binds a socket at this path that only its owner can use. It is made in a folder that only the owner may enter, and
 /// then renamed. So no other user can connect before its mode is set, whatever the umask is.
 pub(crate) fn bind_control<R: Files<File = File> + Net + AllocGlobal>(
@@ -189,14 +206,5 @@ pub(crate) fn bind_control<R: Files<File = File> + Net + AllocGlobal>(
     check_name(rt, name)?;
     let folder = format!(in rt.alloc(); "{name}.new")?;
     let inside = format!(in rt.alloc(); "{name}.new/socket")?;
-    let _ = fs::remove_file(rt, inside.as_str());
-    let _ = fs::remove_dir(rt, folder.as_str());
-    DirBuilder::new()
-        .mode(FOLDER_MODE)
-        .create(rt, folder.as_str())?;
-    let listener = UnixListener::bind(rt, inside.as_str())?;
-    fs::set_permissions(rt, inside.as_str(), fs::Permissions::from_mode(SOCKET_MODE))?;
-    fs::rename(rt, inside.as_str(), name)?;
-    fs::remove_dir(rt, folder.as_str())?;
-    Ok(listener)
+    bind_inside(rt, folder.as_str(), inside.as_str(), name)
 }

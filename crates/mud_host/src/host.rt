@@ -67,6 +67,14 @@ pub(crate) fn time_text(alloc: Global, seconds: u64) -> Result<String, AllocErro
     format!(in alloc; "{instant}")
 }
 
+// Appends the lines of `help`.
+fn tell_help(answer: &mut Answer) -> Result<(), AllocError> {
+    for line in HELP {
+        answer.line(line)?;
+    }
+    Ok(())
+}
+
 // Returns the line of a session.
 fn row_text(alloc: Global, row: &Row) -> Result<String, AllocError> {
     let (number, by, from) = (row.number, row.entrance.word(), row.peer);
@@ -295,11 +303,7 @@ impl<R: HostFiles + AllocGlobal + Wait + Clock> Host<R> {
             Order::Status => self.tell_status(answer)?,
             Order::Sessions => self.tell_sessions(answer)?,
             Order::Bans => self.tell_bans(answer)?,
-            Order::Help => {
-                for line in HELP {
-                    answer.line(line)?;
-                }
-            }
+            Order::Help => tell_help(answer)?,
             Order::End(number) => return self.end(number),
             Order::Ban(text) => return self.ban(text),
             Order::Unban(text) => return self.unban(text),

@@ -52,20 +52,27 @@ fn answer_to<R: AllocGlobal + Wait + Clock>(
     )
 }
 
+// Returns the answer to the request that comes, if one comes in time.
+fn answer_at<R: AllocGlobal + Wait + Clock>(host: &Host<R>, socket: &Socket) -> Option<String> {
+    let (sought, has_body) = hear(&host.rt, host.rt.alloc(), socket)?;
+    answer_to(host, sought, has_body).ok()
+}
+
+// Answers the request of a connection, and ends the connection.
+fn serve<R: AllocGlobal + Wait + Clock>(host: &Host<R>, socket: &Socket) {
+    match answer_at(host, socket) {
+        Some(text) => socket.answer(&host.rt, text.as_str().as_bytes()),
+        None => socket.shut(),
+    }
+}
+
 /// Answers the request of a connection, and closes the connection.
 pub(crate) fn attend<R: AllocGlobal + Wait + Clock>(host: &Host<R>, stream: TcpStream) {
     if !set_up(&stream) {
         return;
     }
     let socket = Socket::new(host.rt.alloc(), stream, Entrance::Web);
-    let answered = match hear(&host.rt, host.rt.alloc(), &socket) {
-        Some((sought, has_body)) => answer_to(host, sought, has_body).ok(),
-        None => None,
-    };
-    match answered {
-        Some(text) => socket.answer(&host.rt, text.as_str().as_bytes()),
-        None => socket.shut(),
-    }
+    serve(host, &socket);
 }
 
 /// Returns the next connection. After a failed call it tries again.

@@ -9,7 +9,7 @@ use crate::logbook::Logbook;
 use crate::metrics::{attend, next_asker};
 use crate::ports::bind;
 use mud_chron::limits::MOST_DESKS;
-use mud_cli::{ChosenRates, Listening, version};
+use mud_cli::{ChosenRates, Listening, StatusListening, version};
 use mud_control::{Control, Rates};
 use mud_socket::unix_seconds;
 use std::alloc::AllocError;
@@ -69,6 +69,54 @@ fn about<R: AllocGlobal + Clock>(rt: &R, listening: Listening<'_>) -> Result<Abo
     })
 }
 
+// Returns the state that the server and its host share, with the bans of the file.
+fn control_of<R: Files<File = File> + AllocGlobal>(
+    rt: &R,
+    listening: Listening<'_>,
+) -> Result<Arc<Control>, HostFault> {
+    let bans = read_bans(rt, listening.bans)?;
+    let control = Control::new(rt.alloc(), MOST_DESKS, rates_of(listening.rates), bans)?;
+    Ok(Arc::new(rt.alloc(), control).map_err(AllocError::from)?)
+}
+
+// Returns the log, with its file if it has one.
+fn book_of<R: Files<File = File> + AllocGlobal + Wait + Copy>(
+    rt: R,
+    log: Option<&str>,
+) -> Result<Arc<Logbook<R>>, HostFault> {
+    let book = Arc::new(rt.alloc(), Logbook::new(rt)).map_err(AllocError::from)?;
+    if let Some(name) = log
+        && let Err(error) = book.open(name)
+    {
+        return Err(HostFault::Log(error.kind()));
+    }
+    Ok(book)
+}
+
+// Returns the state of the host's threads.
+fn host_of<R: AllocGlobal + Clock + Copy>(
+    rt: R,
+    control: &Arc<Control>,
+    book: &Arc<Logbook<R>>,
+    listening: Listening<'_>,
+) -> Result<Arc<Host<R>>, AllocError> {
+    let alloc = rt.alloc();
+    let about = about(&rt, listening)?;
+    let host = Host::new(rt, Arc::try_clone(control)?, Arc::try_clone(book)?, about);
+    Ok(Arc::new(alloc, host)?)
+}
+
+// Binds the port of the status, if there should be one.
+fn askers_of<R: Net<Listener = TcpListener, Stream = TcpStream>>(
+    rt: &R,
+    status: Option<StatusListening<'_>>,
+) -> Result<Option<TcpListener>, HostFault> {
+    match status {
+        Some(status) => Ok(Some(bind(rt, status.address, status.port)?)),
+        None => Ok(None),
+    }
+}
+
 // Binds the socket of the consoles, if there should be one.
 fn consoles_of<R: Files<File = File> + Net + AllocGlobal>(
     rt: &R,
@@ -94,27 +142,16 @@ impl<
 > Staff<R> {
     /// Reads the bans, opens the log, and binds the socket of the consoles and the port of the status.
     pub fn new(rt: R, listening: Listening<'_>) -> Result<Staff<R>, HostFault> {
-        let alloc = rt.alloc();
-        let bans = read_bans(&rt, listening.bans)?;
-        let control = Control::new(alloc, MOST_DESKS, rates_of(listening.rates), bans)?;
-        let control = Arc::new(alloc, control).map_err(AllocError::from)?;
-        let book = Arc::new(alloc, Logbook::new(rt)).map_err(AllocError::from)?;
-        if let Some(name) = listening.log
-            && let Err(error) = book.open(name)
-        {
-            return Err(HostFault::Log(error.kind()));
-        }
-        let about = about(&rt, listening)?;
-        let host = Host::new(rt, Arc::try_clone(&control)?, Arc::try_clone(&book)?, about);
-        let askers = match listening.status {
-            Some(status) => Some(bind(&rt, status.address, status.port)?),
-            None => None,
-        };
+        let control = control_of(&rt, listening)?;
+        let book = book_of(rt, listening.log)?;
+        let host = host_of(rt, &control, &book, listening)?;
+        let askers = askers_of(&rt, listening.status)?;
+        let consoles = consoles_of(&rt, listening.control)?;
         Ok(Staff {
             book,
             control,
-            host: Arc::new(alloc, host).map_err(AllocError::from)?,
-            consoles: consoles_of(&rt, listening.control)?,
+            host,
+            consoles,
             askers,
         })
     }

@@ -384,13 +384,7 @@ fn finish<D: Disk + Drop, W: Write>(
     ensures fault { IfErr result (IsLateFault out.new) }
     ensures total { OnOk result (IfNone terms.entry.stop (0 < terms.entry.limits.total)) }
 {
-    let Ended {
-        history,
-        journal,
-        served,
-        ..
-    } = ended;
-    let mut history = history;
+    let (mut history, journal, served) = ended.into_parts();
     write_entries(alloc, out, &mut history)?;
     if is_well_ended(served == Served::All, terms.stop, terms.limits.total) {
         Ok(journal)

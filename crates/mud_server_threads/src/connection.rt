@@ -424,9 +424,14 @@ impl<J: HallName> Connection<J> {
     pub(crate) fn who<R: Wait>(&self, rt: &R, hall: &Hall<J>) -> Option<(u32, String)> {
         let mut guard = self.client.lock(rt);
         let answer = guard.as_mut()?.look_at_me(hall)?;
-        let (name, number) = answer.text.lines().next()?.rsplit_once(" #")?;
-        let player = number.parse::<u32>().ok()?;
-        let name = String::from_str(*answer.text.allocator(), name).ok()?;
-        Some((player, name))
+        player_in(*answer.text.allocator(), answer.text.as_str())
     }
+}
+
+// Returns the player whom the answer to `look me` names, and the player's first name.
+fn player_in(alloc: Global, answer: &str) -> Option<(u32, String)> {
+    let (name, number) = answer.lines().next()?.rsplit_once(" #")?;
+    let player = number.parse::<u32>().ok()?;
+    let name = String::from_str(alloc, name).ok()?;
+    Some((player, name))
 }

@@ -10,7 +10,6 @@ use std::time::Duration;
 /// limits and its rate limits. Flags say what is known about its first line, whether it has begun, was named in the
 /// log, counts as a player's, and has a player. It also has that player and the time of its last wait. At a turn it has
 /// the input that it read and did not serve, and a flag that is true if lines wait.
-#[derive(Drop)]
 pub(crate) struct Habits {
     pub(crate) peer: SocketAddr,
     pub(crate) since: Duration,
@@ -27,4 +26,33 @@ pub(crate) struct Habits {
     pub(crate) last_wait: Option<Duration>,
     pub(crate) unread: Vec<u8>,
     pub(crate) has_more: bool,
+}
+
+// Written out, so that a proof about dropping it has one step instead of one for each field.
+impl Drop for Habits {
+    fn drop(self) {
+        let Habits {
+            peer: _,
+            since: _,
+            since_seconds: _,
+            moment,
+            patience,
+            first_line,
+            has_begun: _,
+            is_named: _,
+            is_counted: _,
+            pace,
+            has_player: _,
+            player,
+            last_wait: _,
+            unread,
+            has_more: _,
+        } = self;
+        drop(moment);
+        drop(patience);
+        drop(first_line);
+        drop(pace);
+        drop(player);
+        drop(unread);
+    }
 }

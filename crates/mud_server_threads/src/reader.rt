@@ -6,7 +6,7 @@ use crate::log_lines::{log_begin, log_end, log_end_of, log_player, log_refusal, 
 use crate::quay::{Guest, Quay};
 use crate::server::Server;
 use log::Log;
-use mud_client::Outgoing;
+use mud_client::{Client, Outgoing};
 use mud_control::{Pace, Refusal};
 use mud_hall::HallName;
 use mud_server_state::Commits;
@@ -50,6 +50,14 @@ enum Stopped {
     Parted(Parting),
     // The session rests.
     Rests,
+}
+
+// The result of bytes for a session: true if it answered a line, if lines wait, and if it continues.
+#[derive(Clone, Copy)]
+struct Fed {
+    has_line: bool,
+    has_more: bool,
+    goes_on: bool,
 }
 
 impl<'a, J: HallName, G: Commits<J>, R: Threads + Wait + Log + Clock + Sync> Reading<'a, J, G, R> {
@@ -255,41 +263,57 @@ impl<'a, J: HallName, G: Commits<J>, R: Threads + Wait + Log + Clock + Sync> Rea
         }
     }
 
-    // Feeds bytes to the session, under its lock. It asks for the sync of an accepted change before it sends the
-    // output, because a send may wait for the other side. A question is answered by the synced entries, so it waits for
-    // no sync. Returns whether lines wait, or `None` if the session does not continue.
-    //
-    // If the session should end, it sends that in place of an answer. It sends the host's announcements first, because
-    // a player who types without a pause leaves the notice thread no moment in which the lock is free.
+    // Serves bytes, or puts them off. Returns whether lines wait, or `None` if the session does not continue.
     fn step(&mut self, bytes: &[u8]) -> Option<bool> {
-        let (rt, state, connection) = (self.rt, self.state, self.connection);
         if !self.wait_for_turn() || !self.keep_pace() {
             return self.put_off(bytes);
         }
-        let mut guard = connection.client().lock(rt);
-        if let Some(ending) = connection.ending(state) {
-            connection.end(rt, &mut guard, ending);
-            return None;
-        }
-        if !connection.tell_news(rt, &state.control, &mut guard) {
-            return None;
-        }
-        let before = guard.take()?;
-        let begun = now(rt);
-        let (workers, most) = (state.limits.workers, synced_entries(state));
-        let (after, outgoing) = before.feed(rt, &state.hall, workers, most, bytes);
-        let ended = now(rt);
-        *guard = Some(after);
-        self.tell(&outgoing, ended);
-        self.spend(ended, ended.saturating_sub(begun), &outgoing);
-        let (has_line, has_more) = (outgoing.has_line, outgoing.has_more);
-        let goes_on = connection.send(rt, state, &mut guard, outgoing);
+        let connection = self.connection;
+        let mut guard = connection.client().lock(self.rt);
+        let fed = self.feed(&mut guard, bytes);
         drop(guard);
+        let Fed {
+            has_line,
+            has_more,
+            goes_on,
+        } = fed?;
         if has_line {
             self.hear();
         }
         self.learn_player();
         if goes_on { Some(has_more) } else { None }
+    }
+
+    // Feeds bytes to the session, under its lock. It asks for the sync of an accepted change before it sends the
+    // output, because a send may wait for the other side. A question is answered by the synced entries, so it waits for
+    // no sync. Returns `None` if the session has ended.
+    //
+    // If the session should end, it sends that in place of an answer. It sends the host's announcements first, because
+    // a player who types without a pause leaves the notice thread no moment in which the lock is free.
+    fn feed(&mut self, client: &mut Option<Client<J>>, bytes: &[u8]) -> Option<Fed> {
+        let (rt, state, connection) = (self.rt, self.state, self.connection);
+        if let Some(ending) = connection.ending(state) {
+            connection.end(rt, client, ending);
+            return None;
+        }
+        if !connection.tell_news(rt, &state.control, client) {
+            return None;
+        }
+        let before = client.take()?;
+        let begun = now(rt);
+        let (workers, most) = (state.limits.workers, synced_entries(state));
+        let (after, outgoing) = before.feed(rt, &state.hall, workers, most, bytes);
+        let ended = now(rt);
+        *client = Some(after);
+        self.tell(&outgoing, ended);
+        self.spend(ended, ended.saturating_sub(begun), &outgoing);
+        let (has_line, has_more) = (outgoing.has_line, outgoing.has_more);
+        let goes_on = connection.send(rt, state, client, outgoing);
+        Some(Fed {
+            has_line,
+            has_more,
+            goes_on,
+        })
     }
 
     // Serves these bytes, unless they are a browser's request: then the session ends.

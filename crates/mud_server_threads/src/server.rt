@@ -6,7 +6,7 @@ use crate::log_lines::{log_end, log_number, log_refusal};
 use crate::notice::{Sleeper, tell_all};
 use crate::quay::{Guest, Quay};
 use crate::reader::{read_all, read_on};
-use crossbeam_utils::sync::Parker;
+use crossbeam_utils::sync::{Parker, Unparker};
 use log::Log;
 use mud_client::RestingClient;
 use mud_control::{Member, Refusal};
@@ -17,7 +17,7 @@ use std::alloc::Global;
 use std::net::IpAddr;
 use std::sync::{Arc, Wait};
 use std::thread::{Scope, Threads};
-use std::time::Clock;
+use std::time::{Clock, Duration};
 
 /// The values of each thread that starts others: the scope in which they run, the handle that starts them, the
 /// allocator, and the shared state.
@@ -66,6 +66,24 @@ fn refusal_of(no_place: NoPlace) -> Refusal {
         NoPlace::Full => Refusal::Full,
         NoPlace::TooMany => Refusal::Address,
     }
+}
+
+// Returns a connection for the session's opener and its two threads.
+fn shared<J: HallName>(
+    alloc: Global,
+    connection: Connection<J>,
+) -> Option<(Arc<Connection<J>>, Arc<Connection<J>>, Arc<Connection<J>>)> {
+    let kept = Arc::new(alloc, connection).ok()?;
+    let reads = Arc::try_clone(&kept).ok()?;
+    let tells = Arc::try_clone(&kept).ok()?;
+    Some((kept, reads, tells))
+}
+
+// Returns a parker for a notice thread, and its waker.
+fn waker(alloc: Global) -> Option<(Parker, Unparker)> {
+    let parker = Parker::new(alloc).ok()?;
+    let unparker = parker.unparker().clone().ok()?;
+    Some((parker, unparker))
 }
 
 impl<'s, E, J, G, R> Server<'s, E, J, G, R>
@@ -135,29 +153,44 @@ where
         place
     }
 
-    /// Opens a session at the place. Everything that can fail without a desk comes first. The notice thread's waker is
-    /// set before the desk is made, so that it misses no change.
-    pub(crate) fn open(&self, at: usize, socket: Arc<Socket>) -> Option<Begun<J>> {
-        let parker = Parker::new(self.alloc).ok()?;
-        let unparker = parker.unparker().clone().ok()?;
+    // Enters a session at the place, before it has a desk. The notice thread's waker is set then, so that it misses no
+    // change. The last line of the session came at the time `heard`.
+    fn enter(
+        &self,
+        at: usize,
+        socket: Arc<Socket>,
+        since_seconds: u64,
+        told: u64,
+        heard: Duration,
+    ) -> Option<Begun<J>> {
         let theirs = Arc::try_clone(&socket).ok()?;
-        let member = Member::new(unparker, theirs, unix_seconds(self.rt));
-        let control = &self.state.control;
-        let connection = Connection::new(socket, control.news.count());
-        let kept = Arc::new(self.alloc, connection).ok()?;
-        let reads = Arc::try_clone(&kept).ok()?;
-        let tells = Arc::try_clone(&kept).ok()?;
-        let visit = control.roster.enter(self.rt, at, member, now(self.rt));
-        let number = kept.start(self.rt, self.alloc, self.state, at)?;
-        control.roster.number(self.rt, at, number);
-        self.dismiss_banned(&kept);
+        let (kept, reads, tells) = shared(self.alloc, Connection::new(socket, told))?;
+        let (parker, unparker) = waker(self.alloc)?;
+        let member = Member::new(unparker, theirs, since_seconds);
+        let visit = self.state.control.roster.enter(self.rt, at, member, heard);
         Some(Begun {
             kept,
             reads,
             tells,
             sleeper: Sleeper { parker, at, visit },
-            number,
+            number: 0,
         })
+    }
+
+    // Gives the session at the place the number of its desk, and ends it if its address was banned while it began.
+    fn number(&self, at: usize, begun: &mut Begun<J>, number: u32) {
+        begun.number = number;
+        self.state.control.roster.number(self.rt, at, number);
+        self.dismiss_banned(&begun.kept);
+    }
+
+    /// Opens a session at the place. Everything that can fail without a desk comes first.
+    pub(crate) fn open(&self, at: usize, socket: Arc<Socket>) -> Option<Begun<J>> {
+        let told = self.state.control.news.count();
+        let mut begun = self.enter(at, socket, unix_seconds(self.rt), told, now(self.rt))?;
+        let number = begun.kept.start(self.rt, self.alloc, self.state, at)?;
+        self.number(at, &mut begun, number);
+        Some(begun)
     }
 
     // Ends a session whose address was banned while it began.
@@ -185,6 +218,25 @@ where
         read_all(self, connection, at, number, first);
     }
 
+    // Takes a place for a session that rested, and opens it there.
+    fn sit(
+        &self,
+        socket: &Arc<Socket>,
+        client: RestingClient,
+        told: u64,
+        habits: &Habits,
+    ) -> Option<(usize, Begun<J>)> {
+        let theirs = Arc::try_clone(socket).ok()?;
+        let at = self.state.take_free(self.rt, habits.peer.ip())?;
+        match self.open_again(at, theirs, client, told, habits) {
+            Some(begun) => Some((at, begun)),
+            None => {
+                self.state.release_place(self.rt, at);
+                None
+            }
+        }
+    }
+
     /// Seats a session that rested. No thread starts yet: nobody may speak before all sit, because a session hears
     /// nothing until it sits. Returns `None` if the session ends, because memory lacks.
     pub fn seat(&self, guest: Guest) -> Option<Seated<J>> {
@@ -196,13 +248,7 @@ where
             habits,
         } = guest;
         socket.end_rest();
-        let theirs = Arc::try_clone(&socket).ok()?;
-        let Some(at) = self.state.take_free(self.rt, habits.peer.ip()) else {
-            self.lose(&socket, number, &habits);
-            return None;
-        };
-        let Some(begun) = self.open_again(at, theirs, client, told, &habits) else {
-            self.state.release_place(self.rt, at);
+        let Some((at, begun)) = self.sit(&socket, client, told, &habits) else {
             self.lose(&socket, number, &habits);
             return None;
         };
@@ -234,25 +280,13 @@ where
         habits: &Habits,
     ) -> Option<Begun<J>> {
         let (rt, alloc) = (self.rt, self.alloc);
-        let parker = Parker::new(alloc).ok()?;
-        let unparker = parker.unparker().clone().ok()?;
-        let theirs = Arc::try_clone(&socket).ok()?;
-        let member = Member::new(unparker, theirs, habits.since_seconds);
-        let kept = Arc::new(alloc, Connection::new(socket, told)).ok()?;
-        let reads = Arc::try_clone(&kept).ok()?;
-        let tells = Arc::try_clone(&kept).ok()?;
         let heard = habits.patience.last_line();
-        let visit = self.state.control.roster.enter(rt, at, member, heard);
-        let number = kept.go_on(rt, alloc, self.state, at, client, self.quay)?;
-        self.state.control.roster.number(rt, at, number);
-        self.dismiss_banned(&kept);
-        Some(Begun {
-            kept,
-            reads,
-            tells,
-            sleeper: Sleeper { parker, at, visit },
-            number,
-        })
+        let mut begun = self.enter(at, socket, habits.since_seconds, told, heard)?;
+        let number = begun
+            .kept
+            .go_on(rt, alloc, self.state, at, client, self.quay)?;
+        self.number(at, &mut begun, number);
+        Some(begun)
     }
 
     /// Starts the threads of a session that sits again.

@@ -1,7 +1,7 @@
 //! The server: it accepts connections, runs their threads, and settles.
 
 ghost use Rattle.std.specs.Prelude.{◌≡◌, ◌≤◌, ◌<◌, ◌⊎◌, true, Err, IfOk, IfErr, OnOk, OnErr};
-ghost use Rattle.std.specs.Prelude.{ℕ, List, IfNone, IsSome, IsTrue, is_some};
+ghost use Rattle.std.specs.Prelude.{ℕ, List, IfNone, IfSome, IsSome, IsTrue, is_some};
 ghost use Rattle.mud_io.specs.Streams.{Writer};
 ghost use Rattle.mud_chron.specs.Entry.{Entry};
 ghost use Rattle.mud_world.specs.declared.limits.TheConstants.{MOST_ENTRIES};
@@ -96,31 +96,50 @@ where
     R: Threads + Wait + Log + Clock + Sync + 's,
     ensures { result ≡ Served.All → IfNone course.entry.stop (0 < course.entry.limits.total) }
 {
-    let (total, stop) = (course.limits.total, course.stop);
     let mut reader = server.state.hall.reader(server.rt).ok();
     for _ in server.rt.forever() {
         server.state.control.tick(server.rt, now(server.rt));
         if let Some(reader) = &mut reader {
             count_new(server.alloc, server.state, reader);
         }
-        if is_done(stop, total, server.counted_sessions()) {
-            return Served::All;
-        }
-        let Some(arrivals) = arrivals else {
-            return Served::Failed;
-        };
-        if course.turning.is_due(server) {
-            return Served::Due;
-        }
-        match arrivals.next(server.rt) {
-            Arrival::Never => return Served::Failed,
-            _ if server.state.gate.has_failed() => return Served::Failed,
-            Arrival::Telnet(stream, peer) if !is_set(stop) => server.welcome(stream, peer),
-            Arrival::Web(stream, peer) if !is_set(stop) => server.receive(stream, peer),
-            _ => continue,
+        if let Some(served) = accept_one(server, arrivals, course) {
+            return served;
         }
     }
     unreachable!()
+}
+
+// Accepts a connection, if there is one, and begins its session. Returns the reason if no further one is accepted.
+fn accept_one<'s, E, J, G, R>(
+    server: &Server<'s, E, J, G, R>,
+    arrivals: &mut Option<Arrivals>,
+    course: Course<'s>,
+) -> Option<Served>
+where
+    J: HallName + Send + Sync + 's,
+    G: Commits<J> + Sync + 's,
+    R: Threads + Wait + Log + Clock + Sync + 's,
+    ensures { IfSome result
+        (λ served. served ≡ Served.All → IfNone course.entry.stop (0 < course.entry.limits.total)) }
+{
+    let (total, stop) = (course.limits.total, course.stop);
+    if is_done(stop, total, server.counted_sessions()) {
+        return Some(Served::All);
+    }
+    let Some(arrivals) = arrivals else {
+        return Some(Served::Failed);
+    };
+    if course.turning.is_due(server) {
+        return Some(Served::Due);
+    }
+    match arrivals.next(server.rt) {
+        Arrival::Never => return Some(Served::Failed),
+        _ if server.state.gate.has_failed() => return Some(Served::Failed),
+        Arrival::Telnet(stream, peer) if !is_set(stop) => server.welcome(stream, peer),
+        Arrival::Web(stream, peer) if !is_set(stop) => server.receive(stream, peer),
+        _ => {}
+    }
+    None
 }
 
 // Seats the sessions that rested. One that can't sit again ends.

@@ -65,6 +65,21 @@ pub struct Ended<D: Disk + Drop> {
     pub served: Served,
 }
 
+impl<D: Disk + Drop> Ended<D> {
+    /// Returns its history and its journal, and the reason why no further connection was accepted.
+    pub fn into_parts(self) -> (History, Journal<Nameless, D>, Served)
+        ensures { result ≡ (self.history, self.journal, self.served) }
+    {
+        let Ended {
+            history,
+            journal,
+            served,
+            ..
+        } = self;
+        (history, journal, served)
+    }
+}
+
 // Returns the state of a volume, and its players.
 fn state_of<J: HallName, G: Commits<J>, R: Wait + Log>(
     rt: &R,

@@ -114,18 +114,23 @@ fn what_was_told_is_found_whatever_a_crash_leaves(rt: HostRuntime) -> Result<(),
     Ok(())
 }
 
+// Checks that a start leaves the entries that it told, after this many calls of a disk and a failed one.
+fn check_unread(rt: &impl Abort, alloc: Global, calls: u32, entries: &[Entry]) -> Result<(), Fail> {
+    let (store, _) = played(rt, alloc, calls, Fate::Fails, entries)?;
+    let unread = store.read_all()?;
+    let mut next = Store::new(alloc, store.crash(0, 0)?);
+    let (_, told) = go_on(rt, alloc, &mut next, &unread, entries);
+    assert!(rt; told == entries.len());
+    check_left(rt, alloc, next.crash(0, 0)?, entries, told)
+}
+
 // The result of reading a disk after a failed call is not durable. Rejects a start that does not rewrite the file.
 #[test]
 fn what_was_only_read_is_written_anew(rt: HostRuntime) -> Result<(), Fail> {
     let alloc = rt.alloc();
     let entries = entries_of(alloc, TEXT)?;
     for calls in 1..CALLS {
-        let (store, _) = played(&rt, alloc, calls, Fate::Fails, &entries)?;
-        let unread = store.read_all()?;
-        let mut next = Store::new(alloc, store.crash(0, 0)?);
-        let (_, told) = go_on(&rt, alloc, &mut next, &unread, &entries);
-        assert!(rt; told == entries.len());
-        check_left(&rt, alloc, next.crash(0, 0)?, &entries, told)?;
+        check_unread(&rt, alloc, calls, &entries)?;
     }
     Ok(())
 }

@@ -26,13 +26,10 @@ fn scripts(alloc: Global) -> Result<Vec<Vec<u8>>, AllocError> {
     Ok(scripts)
 }
 
-// Checks that each line of a player was answered, in order: `[n] welcome #p`, `[n] said` for each `say`, `[n] bye`.
-fn check_sent(rt: &impl Abort, alloc: Global, player: &Transcript) -> Result<(), AllocError> {
-    let text = String::from_utf8_lossy(alloc, player.sent.as_slice())?;
-    let mut lines = text
-        .as_str()
-        .split("\r\n")
-        .filter(|line| !line.starts_with('('));
+// Checks that the text has the answer to each line of a player, in order: `[n] welcome #p`, `[n] said` for each `say`,
+// `[n] bye`.
+fn check_text(rt: &impl Abort, text: &str) {
+    let mut lines = text.split("\r\n").filter(|line| !line.starts_with('('));
     assert!(rt; lines.next() == Some("Welcome. Type: connect NAME"));
     assert!(rt;
         lines
@@ -44,6 +41,12 @@ fn check_sent(rt: &impl Abort, alloc: Global, player: &Transcript) -> Result<(),
     }
     assert!(rt; lines.next().is_some_and(|line| line.ends_with("] bye")));
     assert!(rt; lines.next() == Some("") && lines.next().is_none());
+}
+
+// Checks that each line of a player was answered.
+fn check_sent(rt: &impl Abort, alloc: Global, player: &Transcript) -> Result<(), AllocError> {
+    let text = String::from_utf8_lossy(alloc, player.sent.as_slice())?;
+    check_text(rt, text.as_str());
     Ok(())
 }
 

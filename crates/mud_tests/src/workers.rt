@@ -6,7 +6,7 @@ use crate::lines::act;
 use crate::rows::same;
 use crate::village::world;
 use mud_chron::{ChronFault, read_history};
-use mud_hall::{Hall, HallName, NewHall};
+use mud_hall::{Desk, Hall, HallName, NewHall};
 use mud_roads::{Label, Traveller};
 use mud_search::{Gate, Labels, labels};
 use mud_words::parse;
@@ -228,6 +228,20 @@ fn question(room: u32) -> &'static str {
     }
 }
 
+// Returns the answer to a desk that becomes the wizard's, computed by workers.
+fn answer_by<J: HallName, R: Threads + Wait + AllocGlobal + Sync>(
+    rt: &R,
+    hall: &Hall<J>,
+    desk: &mut Desk<J>,
+    room: u32,
+    workers: usize,
+    gate: &Barrier,
+) -> Result<String, Fail> {
+    let _ = act(rt, hall, desk, "connect wizard");
+    let said = parse(rt.alloc(), question(room))?;
+    Ok(desk.ask_with(rt, hall, &said, workers, gate)?.text)
+}
+
 // Returns the answer to a new desk of the wizard, computed by workers.
 fn ask_workers<J: HallName, R: Threads + Wait + AllocGlobal + Sync>(
     rt: &R,
@@ -237,9 +251,7 @@ fn ask_workers<J: HallName, R: Threads + Wait + AllocGlobal + Sync>(
     gate: &Barrier,
 ) -> Result<String, Fail> {
     let mut desk = hall.desk(rt)?;
-    let _ = act(rt, hall, &mut desk, "connect wizard");
-    let said = parse(rt.alloc(), question(room))?;
-    Ok(desk.ask_with(rt, hall, &said, workers, gate)?.text)
+    answer_by(rt, hall, &mut desk, room, workers, gate)
 }
 
 // Returns the answer to a new desk of a new hall, computed by workers.

@@ -23,7 +23,6 @@ pub struct Doors {
 
 /// The deed of an actor: one of twelve kinds of change (this project's profile, after the commands of LambdaCore).
 /// docs/WORLD.md has a table with the refusals and the result of each.
-#[derive(Drop)]
 pub enum Deed {
     /// Digs a new room, or an exit to an existing room: the target, and the names of the exits. A dig to an existing
     /// room has an exit; a new room may have none.
@@ -50,6 +49,27 @@ pub enum Deed {
     Say(Speech),
     /// The actor emotes a text. The world does not change.
     Emote(Speech),
+}
+
+// Written out, so that a proof about dropping a deed has one step instead of several for each kind.
+impl Drop for Deed {
+    fn drop(self) {
+        match self {
+            Deed::Dig(target, doors) => {
+                drop(target);
+                drop(doors);
+            }
+            Deed::Make(names) | Deed::Rename { object: _, names } => drop(names),
+            Deed::Lock { object: _, key } => drop(key),
+            Deed::Player(name) => drop(name),
+            Deed::Say(speech) | Deed::Emote(speech) => drop(speech),
+            Deed::Unlock { object: _ }
+            | Deed::Move { thing: _, to: _ }
+            | Deed::Walk { exit: _ }
+            | Deed::Cost { exit: _, cost: _ }
+            | Deed::Recycle { object: _ } => {}
+        }
+    }
 }
 
 /// A change: an actor and a deed.

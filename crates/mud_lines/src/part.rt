@@ -1,9 +1,9 @@
 //! Builds some rooms of a world again, with everything between them.
 
-use crate::spelling::{mapped, quoted};
+use crate::spelling::{mapped, quoted, reference};
 use crate::stop::Stop;
 use crate::typist::Typist;
-use mud_key::print;
+use mud_key::{Key, atoms, print};
 use mud_world::{Doors, Passage, Record, Target, World};
 use std::alloc::{AllocError, Global};
 
@@ -108,8 +108,8 @@ impl Part<'_> {
     fn dig_room(&mut self, room: u32) -> Result<Way, Stop> {
         let copy = self.typist.world.next_number();
         let names = quoted(self.alloc, &self.kept(room)?.names)?;
-        let line = format!(in self.alloc; "@dig {WAY} to {names}")?;
-        self.typist.type_line(line)?;
+        self.typist
+            .type_words(&["@dig", WAY, "to", names.as_str()])?;
         self.note(room, copy)?;
         Ok(Way {
             there: copy.saturating_add(1),
@@ -225,23 +225,26 @@ impl Part<'_> {
             return Ok(spare);
         }
         let spare = self.typist.world.next_number();
-        let line = format!(in self.alloc; "@create gone")?;
-        self.typist.type_line(line)?;
+        self.typist.type_words(&["@create", "gone"])?;
         self.spare = Some(spare);
         Ok(spare)
     }
 
-    // Returns the word for the object in the key of another object of this owner.
-    fn word_for(&mut self, object: u32, owner: u32, named: u32) -> Result<String, NoPart> {
+    // Returns the copy that stands for an object of a key, if there is one. It makes a thing that has none.
+    fn copy_for(&mut self, named: u32) -> Result<Option<u32>, Stop> {
+        if !self.world.exists(named) {
+            return Ok(Some(self.spare()?));
+        }
         if self.copies.get(named).is_none() && self.world.is_thing(named) {
             self.make(named)?;
         }
-        if let Some(copy) = self.copies.get(named) {
-            return Ok(format!(in self.alloc; "#{copy}")?);
-        }
-        if !self.world.exists(named) {
-            let spare = self.spare()?;
-            return Ok(format!(in self.alloc; "#{spare}")?);
+        Ok(self.copies.get(named))
+    }
+
+    // Returns the word for the object in the key of another object of this owner.
+    fn word_for(&mut self, object: u32, owner: u32, named: u32) -> Result<String, NoPart> {
+        if let Some(copy) = self.copy_for(named)? {
+            return Ok(reference(self.alloc, copy)?);
         }
         if named == owner && self.world.is_player(named) {
             return Ok(String::from_str(self.alloc, "me")?);
@@ -249,19 +252,24 @@ impl Part<'_> {
         Err(NoPart::Names(object, named))
     }
 
-    // Returns the words for the objects of a key, in the order of its text.
-    fn words_for(&mut self, object: u32, kept: &Record) -> Result<Vec<String>, NoPart> {
+    // Returns the words for the objects of the key of an object of this owner, in the order of its text.
+    fn words_for(&mut self, object: u32, owner: u32, key: &Key) -> Result<Vec<String>, NoPart> {
         let mut words = Vec::new(self.alloc);
-        if let Some(key) = &kept.key {
-            for named in mud_key::atoms(self.alloc, key)?.iter() {
-                let word = self.word_for(object, kept.owner, *named)?;
-                match words.push(word) {
-                    Ok(()) => {}
-                    Err(_) => return Err(NoPart::OutOfMemory),
-                }
+        for named in atoms(self.alloc, key)?.iter() {
+            let word = self.word_for(object, owner, *named)?;
+            match words.push(word) {
+                Ok(()) => {}
+                Err(_) => return Err(NoPart::OutOfMemory),
             }
         }
         Ok(words)
+    }
+
+    // Returns the key of an object of this owner, as the end of a line.
+    fn key_words(&mut self, object: u32, owner: u32, key: &Key) -> Result<String, NoPart> {
+        let words = self.words_for(object, owner, key)?;
+        let text = print(self.alloc, key)?;
+        Ok(mapped(self.alloc, &text, &words)?)
     }
 
     // Returns the line that locks the object, if it has a key.
@@ -272,10 +280,10 @@ impl Part<'_> {
         let Some(key) = &kept.key else {
             return Ok(None);
         };
-        let words = self.words_for(object, kept)?;
-        let text = print(self.alloc, key)?;
-        let key = mapped(self.alloc, &text, &words)?;
-        Ok(Some(format!(in self.alloc; "@lock #{copy} with {key}")?))
+        let key = self.key_words(object, kept.owner, key)?;
+        let copy = reference(self.alloc, copy)?;
+        let line = ["@lock", copy.as_str(), "with", key.as_str()].join(self.alloc, " ")?;
+        Ok(Some(line))
     }
 
     // Returns the lines that lock all objects of the part, also those that keys of others add to it.
@@ -299,8 +307,7 @@ impl Part<'_> {
     fn price(&mut self, object: u32) -> Result<(), Stop> {
         if let (Some(passage), Some(copy)) = (self.world.passage(object), self.copies.get(object)) {
             if passage.cost != FIRST_COST {
-                let line = format!(in self.alloc; "@cost #{copy} is {}", passage.cost)?;
-                return self.typist.type_line(line);
+                return self.typist.price(copy, passage.cost);
             }
         }
         Ok(())
@@ -315,24 +322,40 @@ impl Part<'_> {
         Ok(())
     }
 
+    // Gives the typist's room the names of the first room.
+    fn name_first(&mut self) -> Result<(), Stop> {
+        if let Some(first) = self.rooms.first().copied() {
+            if let Some(kept) = self.world.get(first) {
+                self.typist.rename(HERE, &kept.names)?;
+            }
+        }
+        Ok(())
+    }
+
+    fn lock_all(&mut self) -> Result<(), NoPart> {
+        for line in self.lock_lines()? {
+            self.typist.type_line(line)?;
+        }
+        Ok(())
+    }
+
+    // Recycles the copy of all objects that are gone.
+    fn end_spare(&mut self) -> Result<(), Stop> {
+        match self.spare {
+            Some(spare) => self.typist.verb("@recycle", spare),
+            None => Ok(()),
+        }
+    }
+
     // Builds the part.
     fn build(&mut self) -> Result<(), NoPart> {
         let ways = self.dig_rooms()?;
         self.fill_all(&ways)?;
         self.price_all()?;
         self.close(&ways)?;
-        if let Some(first) = self.rooms.first().copied() {
-            if let Some(kept) = self.world.get(first) {
-                self.typist.rename(HERE, &kept.names)?;
-            }
-        }
-        for line in self.lock_lines()? {
-            self.typist.type_line(line)?;
-        }
-        if let Some(spare) = self.spare {
-            self.typist.verb("@recycle", spare)?;
-        }
-        Ok(())
+        self.name_first()?;
+        self.lock_all()?;
+        Ok(self.end_spare()?)
     }
 }
 

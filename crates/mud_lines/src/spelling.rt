@@ -27,6 +27,11 @@ pub(crate) fn quoted(alloc: Global, names: &Names) -> Result<String, AllocError>
     Ok(out)
 }
 
+/// Returns the word for the object of a number.
+pub(crate) fn reference(alloc: Global, object: u32) -> Result<String, AllocError> {
+    format!(in alloc; "#{object}")
+}
+
 /// Returns the names of the exits of a dig as one word of a line.
 pub(crate) fn doors_word(alloc: Global, doors: &Doors) -> Result<String, AllocError> {
     let mut out = String::from_str(alloc, "\"")?;
@@ -50,7 +55,7 @@ pub(crate) fn is_preposition(alloc: Global, word: &str) -> Result<bool, AllocErr
 pub(crate) fn target_words(alloc: Global, target: &Target) -> Result<String, AllocError> {
     match target {
         Target::New(names) => quoted(alloc, names),
-        Target::Old(room) => format!(in alloc; "#{}", *room),
+        Target::Old(room) => reference(alloc, *room),
     }
 }
 
@@ -79,6 +84,11 @@ pub(crate) fn mapped(alloc: Global, text: &str, words: &[String]) -> Result<Stri
     Ok(out)
 }
 
+// Appends the number in another world of a number in a new world.
+fn push_moved(out: &mut String, number: u32, here: u32, next: u32) -> Result<(), AllocError> {
+    write!(out, "{}", moved(number, here, next))
+}
+
 /// Returns the line for another world, where the room of the typist has number `here`, and the next object gets number
 /// `next`. A number in quotes stays.
 pub(crate) fn shifted(
@@ -96,7 +106,7 @@ pub(crate) fn shifted(
                 number = Some(value.saturating_mul(10).saturating_add(digit));
                 continue;
             }
-            write!(out, "{}", moved(value, here, next))?;
+            push_moved(&mut out, value, here, next)?;
             number = None;
         }
         if sign == '"' {
@@ -108,7 +118,7 @@ pub(crate) fn shifted(
         out.push(sign)?;
     }
     if let Some(value) = number {
-        write!(out, "{}", moved(value, here, next))?;
+        push_moved(&mut out, value, here, next)?;
     }
     Ok(out)
 }

@@ -94,6 +94,14 @@ impl Typist {
         self.lines.push(line)?;
         Ok(())
     }
+
+    /// Types the line of these words.
+    pub(crate) fn type_words(&mut self, words: &[&str]) -> Result<(), Stop>
+        ensures { IsTyped self.old → OnOk result (IsTyped self.new) }
+    {
+        let line = words.join(self.alloc, " ")?;
+        self.type_line(line)
+    }
 }
 
 /// Types these lines in a new world.

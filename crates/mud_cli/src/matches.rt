@@ -40,7 +40,7 @@ pub(crate) fn matched<'a>(
     }
 }
 
-// Returns the task. If there is none, the fault is an error of this kind.
+// Returns the task, or a fault with an error of this kind.
 pub(crate) fn fit<T: Drop>(
     alloc: Global,
     command: Command<'_>,

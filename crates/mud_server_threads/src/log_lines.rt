@@ -4,7 +4,7 @@ use log::{Log, info, warn};
 use mud_control::{Refusal, Tally};
 use mud_socket::{Parting, now};
 use std::net::{IpAddr, SocketAddr};
-use std::time::Clock;
+use std::time::{Clock, Duration};
 
 /// Logs that a session began, by this entrance.
 pub(crate) fn log_begin<R: Log>(rt: &R, number: u32, peer: SocketAddr, by: &str) {
@@ -41,6 +41,31 @@ pub(crate) fn log_end_of<R: Log>(
     name: &str,
 ) {
     info!(rt; "end session={number} from={peer} why={why} player=#{player} name=\"{name}\"");
+}
+
+/// Logs that this volume began with `begun` changes, and the earlier one ended with `was`.
+pub(crate) fn log_turn<R: Log>(
+    rt: &R,
+    volume: u32,
+    begun: u32,
+    was: usize,
+    sessions: u32,
+    pause: Duration,
+) {
+    let millis = pause.as_millis();
+    info!(rt; "turn volume={volume} changes={begun} was={was} sessions={sessions} pause-ms={millis}");
+}
+
+/// Logs that the turn was called off, and the volume goes on.
+pub(crate) fn log_call_off<R: Log>(
+    rt: &R,
+    volume: u32,
+    begun: u32,
+    sessions: u32,
+    pause: Duration,
+) {
+    let millis = pause.as_millis();
+    info!(rt; "same volume={volume} changes={begun} sessions={sessions} pause-ms={millis}");
 }
 
 /// Counts a refused connection. The log names at most one a second, with the count for its reason.

@@ -1,8 +1,8 @@
 //! Sessions between two volumes.
 
 use crate::habits::Habits;
-use crate::log_lines::log_end;
-use log::{Log, info};
+use crate::log_lines::{log_call_off, log_end, log_turn};
+use log::Log;
 use mud_client::RestingClient;
 use mud_control::Tally;
 use mud_socket::{Ending, Entrance, Parting, Socket, now};
@@ -96,15 +96,14 @@ impl Quay {
             return;
         };
         let (volume, pause) = (self.volume, now(rt).saturating_sub(came.since));
-        let millis = pause.as_millis();
         match came.changes {
             Some(was) => {
                 tally.count_turn(pause);
-                info!(rt; "turn volume={volume} changes={begun} was={was} sessions={sessions} pause-ms={millis}");
+                log_turn(rt, volume, begun, was, sessions, pause);
             }
             None => {
                 tally.count_call_off();
-                info!(rt; "same volume={volume} changes={begun} sessions={sessions} pause-ms={millis}");
+                log_call_off(rt, volume, begun, sessions, pause);
             }
         }
     }

@@ -1,14 +1,15 @@
 //! Proofs that entries are durable, which pass from the journal's lock to other threads.
 
-ghost use Rattle.std.specs.Prelude.{◌≡◌, []};
+ghost use Rattle.std.specs.Prelude.{◌≡◌, ◌≤◌, ℕ, []};
 ghost use Rattle.crossbeam_utils.specs.Seq.{cell_view};
-ghost use Rattle.mud_theorems.specs.inner.Durable.{claimer};
+ghost use Rattle.mud_theorems.specs.inner.Durable.{knower, claimer};
 
 use atomic_table::{Join, Split};
 use crossbeam_utils::atomic::seq_cell::{Pass as CellPass, RuledSeqCell};
 use crossbeam_utils::rule::{Outcome, Protocol};
 use mud_journal::Receipt;
 use std::marker::{Brand, Model, PhantomData};
+use std::sync::Wait;
 
 /// The name of one cell.
 pub(crate) trait Room {
@@ -43,7 +44,7 @@ impl Protocol<[u64; 1], Knowledge> for Claims {
 }
 
 /// The knower counts more durable entries.
-pub(crate) struct Raises;
+struct Raises;
 
 impl Outcome<[u64; 1], Knowledge> for Raises {
     ghost use Rattle.mud_theorems.specs.inner.Durable.{Raised};
@@ -52,7 +53,7 @@ impl Outcome<[u64; 1], Knowledge> for Raises {
 }
 
 /// The knower compares a claim.
-pub(crate) struct Compares;
+struct Compares;
 
 impl Outcome<[u64; 1], Knowledge> for Compares {
     ghost use Rattle.mud_theorems.specs.inner.Durable.{Compared};
@@ -84,6 +85,29 @@ pub(crate) type Cell = RuledSeqCell<[u64; 1], Knowledge, Claims, 1>;
 
 /// A pass of the cell.
 pub(crate) type Pass = CellPass<[u64; 1], Knowledge>;
+
+/// Tells the cell that so many entries are durable, by the pass that knows how many were. They are no fewer.
+pub(crate) fn raise<R: Wait>(rt: &R, cell: &Cell, pass: &mut Pass, count: u64)
+    requires cell { pass.old.table_id ≡ cell.now.table.shared.table_id }
+    requires knows { (known : ℕ) × (known ≤ count) × (cell_view pass.old ≡ knower known) }
+    ensures cell { pass.new.table_id ≡ pass.old.table_id }
+    ensures knows { cell_view pass.new ≡ knower count }
+{
+    cell.swap_as::<Raises, R>(rt, pass, [count]);
+}
+
+/// Takes a claim back into the pass that knows how many entries are durable, and compares it with their number.
+pub(crate) fn compare<R: Wait>(rt: &R, cell: &Cell, pass: &mut Pass, claim: Pass)
+    requires cell { pass.old.table_id ≡ cell.now.table.shared.table_id }
+    requires claim { (claim.table_id ≡ pass.old.table_id) × (claim.me.1 ≡ []) }
+    requires knows { (known : ℕ) × (cell_view pass.old ≡ knower known) }
+    ensures cell { pass.new.table_id ≡ pass.old.table_id }
+    ensures knows { cell_view pass.new ≡ cell_view pass.old }
+    ensures claim { (cell_view claim).claims ≤ (cell_view pass.old).count }
+{
+    cell.join_pass::<Giving>(pass, claim);
+    cell.load_as::<Compares, R>(rt, pass);
+}
 
 /// A proof that this many entries of the journal that `J` names are durable. A contract sees their number.
 #[derive(Drop)]

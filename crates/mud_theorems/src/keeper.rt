@@ -9,7 +9,7 @@ ghost use Rattle.mud_journal.specs.Crash.{IsLeft};
 ghost use Rattle.mud_theorems.specs.inner.Durable.{knower};
 ghost use Rattle.mud_theorems.specs.inner.Kept.{IsKeeping};
 
-use crate::durable::{Cell, Compares, Durable, Giving, Pass, Raises, Room};
+use crate::durable::{Cell, Durable, Giving, Pass, Room, compare, raise};
 use mud_hall::{Desk, Hall, HallName, Reader};
 use mud_journal::{Appends, Journal, JournalFault, Nameless};
 use mud_world::limits::MOST_ENTRIES;
@@ -71,7 +71,7 @@ impl<J: HallName, D: Appends + Drop, B: Room> Keeper<J, D, B> {
         ensures { result.entries ≡ reader }
     {
         let mut pass = first;
-        cell.swap_as::<Raises, R>(rt, &mut pass, [journal.len() as u64]);
+        raise(rt, cell, &mut pass, journal.len() as u64);
         Keeper {
             alloc,
             journal,
@@ -102,7 +102,7 @@ impl<J: HallName, D: Appends + Drop, B: Room> Keeper<J, D, B> {
             }
         };
         self.journal.commit(self.alloc, &new)?;
-        cell.swap_as::<Raises, R>(rt, &mut self.pass, [self.journal.len() as u64]);
+        raise(rt, cell, &mut self.pass, self.journal.len() as u64);
         Ok(())
     }
 
@@ -145,8 +145,7 @@ impl<J: HallName, D: Appends + Drop, B: Room> Keeper<J, D, B> {
         ensures told { told ≤ self.old.count }
     {
         let Durable { pass, .. } = told;
-        cell.join_pass::<Giving>(&mut self.pass, pass);
-        cell.load_as::<Compares, R>(rt, &mut self.pass);
+        compare(rt, cell, &mut self.pass, pass);
     }
 
     /// Reads what the desks have seen, and returns the number of entries.

@@ -1,19 +1,18 @@
-use Rattle.std.proofs.Common.{rules, ◌≡◌, ◌≤◌, [], ◌∷◌, ◌++◌, List, false, sym, ap, ◌∙◌, subst, arith}
-use Rattle.crossbeam_utils.specs.Seq.{cell_view}
+use Rattle.std.proofs.Common.{◌≡◌, ◌≤◌, ◌++◌, List, false, sym, ap, ◌∙◌, subst, arith}
 use Rattle.mud_chron.specs.Entry.{Entry}
 use Rattle.mud_journal.specs.Disk.{Holds}
-use Rattle.mud_theorems.specs.declared.durable.Knowledge.{Knowledge}
-use Rattle.mud_theorems.specs.inner.Durable.{knower, Raised}
-use Rattle.mud_theorems.proofs.Claims.{raises_as}
+use Rattle.mud_theorems.specs.inner.Durable.{knower}
 use Rattle.mud_theorems.proofs.Keeping.{committed, part_kept, unwritten, prefix_trans}
 use Rattle.mud_theorems.proofs.keeper.Keeper.write.Goals as goal
 
-pub swap_as-requires : goal.swap_as-requires
-swap_as-requires g c =
+pub raise-requires : goal.raise-requires
+raise-requires g c =
     let i = c.self.invariant in
     let more : c.self.inside.journal.count ≤ c.len.result =
-    omega (arith, c.len.ensures, c.in_ok-commit.ensures.count.0) in
-    (search rules, (search rules, (i.2 ∙ sym c.requires, raises_as _ _ _ (c.len.result ∷ []) i.3 more)))
+    omega (arith, c.len.ensures, c.in_ok-commit.ensures.count.0) in record {
+      cell = i.2 ∙ sym c.requires;
+      knows = (c.self.inside.journal.count, more, i.3);
+    }
 
 pub invariant_of-self-2 : goal.invariant_of-self-2
 invariant_of-self-2 g c =
@@ -23,15 +22,13 @@ invariant_of-self-2 g c =
     let going : j.has_failed ≡ false = sym c.has_failed.ensures ∙ c.if-has_failed.false in
     let held = i.0.whole going in
     let read = c.in-Ok.ensures.ok ∙ ap (λ l. es ++ l) (sym c.deref.ensures.value) in
-    let s = c.swap_as.ensures in
-    let raised =
-    subst (λ (v : Knowledge). Raised v [] (c.len.result ∷ []) (cell_view c.swap_as.new.pass)) i.3 s.rule in (
+    let s = c.raise.ensures in (
       committed (g.D.Appends.kept j.disk) (g.D.Appends.kept c.commit.new.self.disk) es c.read.new.self
           c.deref.result.now j.count c.commit.new.self.count c.commit.new.self.has_failed held.0 held.1 read
           c.in_ok-commit.ensures.ok c.in_ok-commit.ensures.count.0,
       prefix_trans g.J.HallName.loaded es c.read.new.self i.1 c.read.ensures.longer,
-      s.cell.0 ∙ i.2,
-      raised ∙ ap knower c.len.ensures,
+      s.cell ∙ i.2,
+      s.knows ∙ ap knower c.len.ensures,
     )
 
 pub invariant_of-self-in_err-commit : goal.invariant_of-self-in_err-commit

@@ -2,6 +2,7 @@
 import functools
 import importlib.machinery
 import importlib.util
+import itertools
 import os
 import re
 import subprocess
@@ -47,18 +48,18 @@ def place_below(crate):
 
 @dataclass
 class Said:
-    """The prover's report on one function of a crate: its status and its lines."""
+    """The prover's report on one function of a crate: the status, all lines, and the lines about this function."""
 
     function: str
     status: int
     lines: list
+    own: list
 
     def of_function(self):
         """Returns the verdict at the end of the function's line, such as `proved`, or an empty text if there is no such
         line."""
-        name = rf"fn (?:\w+::)+{re.escape(self.function)}: (.*)"
-        found = (re.fullmatch(name, line) for line in self.lines)
-        return next((one[1] for one in found if one), "")
+        found = (line_of(self.function, line) for line in self.lines)
+        return next((one["verdict"] for one in found if one), "")
 
     def is_proved(self):
         return self.status == 0 and self.of_function().startswith("proved")
@@ -67,7 +68,7 @@ class Said:
         """Returns whether it read everything and found no proof of the function, for more reason than a missing
         name."""
         read_all = self.status == 1 and re.match(r"only=\d+ proved=\d+$", self.lines[-1])
-        reasons = [line for line in self.lines if REASON.match(line) and not GONE.search(line)]
+        reasons = [line for line in self.own if REASON.match(line) and not GONE.search(line)]
         return bool(read_all and reasons and re.match(r"not proved|no proof", self.of_function()))
 
     def shown(self):
@@ -76,11 +77,28 @@ class Said:
         return f"status {self.status}: {'; '.join(line[:200] for line in [*reasons[:2], self.lines[-1]])}"
 
 
-def check_function(crate, function, folder, kept):
-    """Returns the prover's report on a function of a crate whose files are in this folder, with the functions that it
-    calls there. It begins with what earlier checks of the crate left in the folder `kept`, and adds to it."""
+def line_of(function, line):
+    """Returns the parts of a line with the verdict on a function: its path in the crate, and the verdict."""
+    return re.fullmatch(rf"fn \w+::(?P<path>(?:\w+::)*{re.escape(function)}): (?P<verdict>.*)", line)
+
+
+def lines_about(function, lines):
+    """Returns the lines that are about a function alone: those about the files of its proof, and the notes before the
+    line with its verdict."""
+    at, found = next(((at, one) for at, one in enumerate(line_of(function, line) for line in lines) if one), (0, None))
+    if not found:
+        return []
+    files = f"proofs/{found['path'].replace('::', '/')}/"
+    notes = itertools.takewhile(lambda line: not line.startswith("fn "), reversed(lines[:at]))
+    return [*notes, *(line for line in lines if line.removeprefix("./").startswith(files))]
+
+
+def check_functions(crate, names, folder, kept):
+    """Returns the prover's reports on functions of a crate whose files are in this folder, checked with the functions
+    that they call there. It begins with what earlier checks of the crate left in the folder `kept`, and adds to it."""
     words = run().words_over(crates(), crate, functools.partial(rlib_at, place_below(crate)))
-    return checked([*words, "--incremental", kept], function, folder)
+    status, lines = checked([*words, "--incremental", kept], names, folder)
+    return [Said(name, status, lines, lines_about(name, lines) if len(names) > 1 else lines) for name in names]
 
 
 def check_own(name, like, function, folder):
@@ -88,12 +106,13 @@ def check_own(name, like, function, folder):
     crates of another one."""
     words = run().words_over(crates(), like, functools.partial(rlib_at, place_below(like)))
     words = [name if it == like else it for it in words]
-    return checked([*words, "--extern", f"core={run().kit()}/rlibs/core.rlib"], function, folder)
+    status, lines = checked([*words, "--extern", f"core={run().kit()}/rlibs/core.rlib"], [function], folder)
+    return Said(function, status, lines, lines)
 
 
-def checked(words, function, folder):
-    """Returns the prover's report on a function of the crate in this folder."""
-    words = [f"{run().kit()}/bin/rattle", "check", *words, "--only", function]
+def checked(words, names, folder):
+    """Checks these functions of the crate in this folder. Returns the prover's status and its lines."""
+    words = [f"{run().kit()}/bin/rattle", "check", *words, *(word for name in names for word in ("--only", name))]
     how = {"stdin": subprocess.DEVNULL, "stdout": subprocess.PIPE, "stderr": subprocess.STDOUT, "errors": "replace"}
     ran = subprocess.run(words, cwd=folder, check=False, **how)
-    return Said(function, ran.returncode, ran.stdout.strip().split("\n"))
+    return ran.returncode, ran.stdout.strip().split("\n")

@@ -1,7 +1,8 @@
 """Wrong bodies that the prover must refuse: tests/wrong-bodies/CRATE. A line `function: ` names the function that must
 lose its proof, by its name as the prover prints it, or the end of that. A try checks only that function and the
-functions of its crate that it calls, so it costs a fraction of the crate. `tried: ` says when to try it: `in the gate`,
-or `on demand`. Each change has a line `file: `, and the old and the new text."""
+functions of its crate that it calls, so it costs a fraction of the crate. Wrong bodies of several functions of a crate
+are tried at once: each has to lose its proof for reasons of its own. `tried: ` says when to try it: `in the gate`, or
+`on demand`. Each change has a line `file: `, and the old and the new text."""
 import functools
 import glob
 import itertools
@@ -15,7 +16,7 @@ from dataclasses import dataclass, field
 
 from harness.parts import Skipped, part
 from harness.programs import TOP, NotBuilt
-from harness.prover import check_function, crates, run
+from harness.prover import check_functions, crates, run
 
 FOLDER = f"{TOP}/tests/wrong-bodies"
 IN_GATE, ON_DEMAND = "in the gate", "on demand"
@@ -40,10 +41,10 @@ class Edit:
     def name(self):
         return os.path.relpath(self.path, FOLDER)
 
-    def texts(self):
-        """Returns the texts of the files that it changes, by their paths in the crate, and the changes that can't be
-        made."""
-        texts, faults = {}, [] if self.changes else ["it changes nothing"]
+    def texts(self, others=None):
+        """Returns the texts of the files that it or others change, by their paths in the crate, and the changes that
+        can't be made. `others` has the texts that other edits made."""
+        texts, faults = dict(others or {}), [] if self.changes else ["it changes nothing"]
         for file, old, new in self.changes:
             text = texts.get(file) or file_text(f"{TOP}/crates/{self.crate()}/{file}")
             faults += [] if text.count(old) == 1 else [f"not once in its file: {old}"]
@@ -124,16 +125,33 @@ def plantable(count):
 # ---- is it refused
 
 
-def tried(edit, texts, kept):
-    """Returns the prover's report on the function of an edit, with these texts in place of the crate's. It begins with
-    what earlier tries of the crate left in the folder `kept`."""
+def tried(batch, texts, kept):
+    """Returns the prover's reports on the functions of edits of a crate, with these texts in place of the crate's. It
+    begins with what earlier tries of the crate left in the folder `kept`."""
+    crate = batch[0].crate()
     with tempfile.TemporaryDirectory(prefix="wrong-body-") as folder:
-        for one in filter(lambda one: os.path.isdir(f"{TOP}/crates/{edit.crate()}/{one}"), run().PARTS):
-            shutil.copytree(f"{TOP}/crates/{edit.crate()}/{one}", f"{folder}/{one}")
+        for one in filter(lambda one: os.path.isdir(f"{TOP}/crates/{crate}/{one}"), run().PARTS):
+            shutil.copytree(f"{TOP}/crates/{crate}/{one}", f"{folder}/{one}")
         for file, text in texts.items():
             with open(f"{folder}/{file}", "w", encoding="utf-8") as planted:
                 planted.write(text)
-        return check_function(edit.crate(), edit.function, folder, kept)
+        return check_functions(crate, [edit.function for edit in batch], folder, kept)
+
+
+def batches(group):
+    """Returns the edits of a crate in batches, each with the texts that its edits make together. No batch has two edits
+    of one function."""
+    found = []
+    for edit in group:
+        for batch, texts in found:
+            more, faults = edit.texts(texts)
+            if not faults and edit.function not in [one.function for one in batch]:
+                batch.append(edit)
+                texts.update(more)
+                break
+        else:
+            found.append(([edit], edit.texts()[0]))
+    return found
 
 
 def left_of(names):
@@ -152,18 +170,23 @@ def wait_until_few(names, few):
 
 
 def planted(group):
-    """Returns the reports on the edits of a crate, once the libraries below it are proved. They are tried one after
-    the other: they have most of a check in common."""
+    """Returns the reports on the edits of a crate, once the libraries below it are proved. Batches are tried one after
+    the other: they have most of a check in common. An edit that others may have hidden is tried again, alone."""
     wait_until_few(crates().below(group[0].crate()), 0)
+    found = []
     with tempfile.TemporaryDirectory(prefix="kept-checks-") as kept:
-        return [(edit, tried(edit, edit.texts()[0], kept)) for edit in group]
+        for batch, texts in batches(group):
+            for edit, said in zip(batch, tried(batch, texts, kept)):
+                is_hidden = len(batch) > 1 and not said.finds_no_proof()
+                found.append((edit, tried([edit], edit.texts()[0], kept)[0] if is_hidden else said))
+    return found
 
 
 def right(edit):
     """Returns the prover's report on the function of an edit as it stands, after a try of the edit."""
     with tempfile.TemporaryDirectory(prefix="kept-checks-") as kept:
-        tried(edit, edit.texts()[0], kept)
-        return tried(edit, {}, kept)
+        tried([edit], edit.texts()[0], kept)
+        return tried([edit], {}, kept)[0]
 
 
 def count_refusals(count, chosen):

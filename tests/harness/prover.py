@@ -89,7 +89,8 @@ def lines_about(function, lines):
     if not found:
         return []
     files = f"proofs/{found['path'].replace('::', '/')}/"
-    notes = itertools.takewhile(lambda line: not line.startswith("fn "), reversed(lines[:at]))
+    before = itertools.takewhile(lambda line: not line.startswith("fn "), reversed(lines[:at]))
+    notes = (line for line in before if line.startswith("note: "))
     return [*notes, *(line for line in lines if line.removeprefix("./").startswith(files))]
 
 

@@ -1,8 +1,8 @@
 """Wrong bodies that the prover must refuse: tests/wrong-bodies/CRATE. A line `function: ` names the function that must
 lose its proof, by its name as the prover prints it, or the end of that. A try checks only that function and the
 functions of its crate that it calls, so it costs a fraction of the crate. Wrong bodies of several functions of a crate
-are tried at once: each has to lose its proof for reasons of its own. `tried: ` says when to try it: `in the gate`, or
-`on demand`. Each change has a line `file: `, and the old and the new text."""
+are tried at once, unless they change more than code: each has to lose its proof for reasons of its own. `tried: ` says
+when to try it: `in the gate`, or `on demand`. Each change has a line `file: `, and the old and the new text."""
 import functools
 import glob
 import itertools
@@ -20,6 +20,8 @@ from harness.prover import check_functions, crates, run
 
 FOLDER = f"{TOP}/tests/wrong-bodies"
 IN_GATE, ON_DEMAND = "in the gate", "on demand"
+# Words of clauses, and of items that are no functions: proofs of other functions may rest on them.
+SHARED = re.compile(r"\b(?:ghost|requires|ensures|const|static|struct|enum|trait|impl)\b")
 # The output of a running `rt ci`, if the wrong bodies are tried beside it: how it names a crate that is proved, and its
 # last line. They are tried once at most `FEW` crates are left to prove.
 SAID = os.environ.get("RT_CI_SAID")
@@ -40,6 +42,11 @@ class Edit:
 
     def name(self):
         return os.path.relpath(self.path, FOLDER)
+
+    def changes_code_alone(self):
+        """Returns whether it changes only code of functions, so that no other function can lose its proof by it, but
+        for those that call one of these."""
+        return all(file.startswith("src/") and not SHARED.search(old + new) for file, old, new in self.changes)
 
     def texts(self, others=None):
         """Returns the texts of the files that it or others change, by their paths in the crate, and the changes that
@@ -140,9 +147,9 @@ def tried(batch, texts, kept):
 
 def batches(group):
     """Returns the edits of a crate in batches, each with the texts that its edits make together. No batch has two edits
-    of one function."""
+    of one function. An edit that changes more than code is alone."""
     found = []
-    for edit in group:
+    for edit in filter(Edit.changes_code_alone, group):
         for batch, texts in found:
             more, faults = edit.texts(texts)
             if not faults and edit.function not in [one.function for one in batch]:
@@ -151,7 +158,7 @@ def batches(group):
                 break
         else:
             found.append(([edit], edit.texts()[0]))
-    return found
+    return [*found, *(([edit], edit.texts()[0]) for edit in group if not edit.changes_code_alone())]
 
 
 def left_of(names):

@@ -135,8 +135,8 @@ impl Solo {
         self.history
     }
 
-    /// Sets the number of workers that the guide uses. Initially there are none, and only the caller's thread searches.
-    /// The answers do not depend on it.
+    /// Sets the number of workers that the guide uses. It is zero at first: only the caller's thread searches. The
+    /// answers do not depend on it.
     pub fn set_workers(&mut self, workers: u32)
         ensures { self.new ≡ self.old }
     {

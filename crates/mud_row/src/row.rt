@@ -94,7 +94,7 @@ impl Row {
     }
 
     /// Returns the entry of the first cell that the pass does not know, and makes it known. It returns `None`, and
-    /// changes nothing, if that cell was not found set, or there is none. It does not allocate.
+    /// changes nothing, if that cell was not found set, or the pass knows all cells. It does not allocate.
     pub fn next<'a>(&'a self, pass: &mut Pass) -> Option<&'a Entry>
         requires { pass.old.row ≡ self.now }
         ensures row { pass.new.row ≡ pass.old.row }

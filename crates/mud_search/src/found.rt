@@ -49,8 +49,8 @@ impl Labels {
         self.boards.append(&mut boards)
     }
 
-    /// Returns the label of a member at a room: the cost and the number of exits of a walk there. There is none if no
-    /// walk of the member leads there, and past the last member or number.
+    /// Returns the label of a member at a room: the cost and the number of exits of a walk there. Returns `None` if no
+    /// walk of the member leads there, or if the member or the number is past the last one.
     pub fn get(&self, member: usize, room: u32) -> Option<Label>
         ensures { result ≡ label_in self.now member room }
     {
@@ -61,8 +61,8 @@ impl Labels {
         }
     }
 
-    /// Returns the labels of a member at the numbers below `next`, each with its number, sorted. There are none past
-    /// the last member. The only error is out of memory.
+    /// Returns the labels of a member at the numbers below `next`, each with its number, sorted. The list is empty for
+    /// a member past the last one. The only error is out of memory.
     pub fn below(
         &self,
         alloc: Global,

@@ -103,8 +103,8 @@ impl Parting {
         }
     }
 
-    /// Returns the close of a web socket at the end. There is none after a text that was not taken whole, because no
-    /// frame can follow it, and none after a broken frame, which was already answered by a close. A browser's request
+    /// Returns the close of a web socket at the end. It returns `None` after a text that was not taken whole, because
+    /// no frame can follow it, and after a broken frame, which was already answered by a close. A browser's request
     /// ends only Telnet sessions.
     pub fn close(self) -> Option<Close>
         ensures { result ≡ close_of self }

@@ -86,7 +86,7 @@ pub(crate) type Cell = RuledSeqCell<[u64; 1], Knowledge, Claims, 1>;
 /// A pass of the cell.
 pub(crate) type Pass = CellPass<[u64; 1], Knowledge>;
 
-/// Tells the cell that so many entries are durable, by the pass that knows how many were. They are no fewer.
+/// Raises the number of durable entries that the pass knows. The new number is at least the old one.
 pub(crate) fn raise<R: Wait>(rt: &R, cell: &Cell, pass: &mut Pass, count: u64)
     requires cell { pass.old.table_id ≡ cell.now.table.shared.table_id }
     requires knows { (known : ℕ) × (known ≤ count) × (cell_view pass.old ≡ knower known) }

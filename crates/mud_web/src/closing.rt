@@ -60,7 +60,7 @@ impl Ending {
         }
     }
 
-    /// Returns the ending that a protocol error calls for. After the other side's close there is none.
+    /// Returns the ending that a protocol error calls for. It returns `None` after the other side's close.
     pub fn of(error: Error) -> Option<Ending>
         ensures { result ≡ ending_of error }
     {

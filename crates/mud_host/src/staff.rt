@@ -23,6 +23,7 @@ use std::thread::{self, Threads};
 use std::time::Clock;
 
 /// The state that a server shares with its host's threads, and the listeners of those threads.
+#[derive(Drop)]
 pub struct Staff<R> {
     /// The log.
     pub book: Arc<Logbook<R>>,
@@ -32,23 +33,6 @@ pub struct Staff<R> {
     // The listener of the consoles, and that of requests for the status.
     consoles: Option<UnixListener>,
     askers: Option<TcpListener>,
-}
-
-impl<R: Drop> Drop for Staff<R> {
-    fn drop(self) {
-        let Staff {
-            book,
-            control,
-            host,
-            consoles,
-            askers,
-        } = self;
-        drop(book);
-        drop(control);
-        drop(host);
-        drop(consoles);
-        drop(askers);
-    }
 }
 
 // Returns the rates of the command line.
@@ -73,7 +57,7 @@ fn copy_of<R: AllocGlobal>(rt: &R, name: Option<&str>) -> Result<Option<String>,
 }
 
 // Returns the facts about the server that don't change. The only error is out of memory.
-fn about<R: AllocGlobal + Clock>(rt: &R, listening: &Listening<'_>) -> Result<About, AllocError> {
+fn about<R: AllocGlobal + Clock>(rt: &R, listening: Listening<'_>) -> Result<About, AllocError> {
     Ok(About {
         version: version(),
         since_seconds: unix_seconds(rt),
@@ -88,7 +72,7 @@ fn about<R: AllocGlobal + Clock>(rt: &R, listening: &Listening<'_>) -> Result<Ab
 // Returns the state that the server and its host share, with the bans of the file.
 fn control_of<R: Files<File = File> + AllocGlobal>(
     rt: &R,
-    listening: &Listening<'_>,
+    listening: Listening<'_>,
 ) -> Result<Arc<Control>, HostFault> {
     let bans = read_bans(rt, listening.bans)?;
     let control = Control::new(rt.alloc(), MOST_DESKS, rates_of(listening.rates), bans)?;
@@ -114,7 +98,7 @@ fn host_of<R: AllocGlobal + Clock + Copy>(
     rt: R,
     control: &Arc<Control>,
     book: &Arc<Logbook<R>>,
-    listening: &Listening<'_>,
+    listening: Listening<'_>,
 ) -> Result<Arc<Host<R>>, AllocError> {
     let alloc = rt.alloc();
     let about = about(&rt, listening)?;
@@ -157,7 +141,7 @@ impl<
         + Copy,
 > Staff<R> {
     /// Reads the bans, opens the log, and binds the socket of the consoles and the port of the status.
-    pub fn new(rt: R, listening: &Listening<'_>) -> Result<Staff<R>, HostFault> {
+    pub fn new(rt: R, listening: Listening<'_>) -> Result<Staff<R>, HostFault> {
         let control = control_of(&rt, listening)?;
         let book = book_of(rt, listening.log)?;
         let host = host_of(rt, &control, &book, listening)?;

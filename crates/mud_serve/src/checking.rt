@@ -64,7 +64,7 @@ fn say_rates<R: Print>(rt: &R, rates: ChosenRates) -> Result<(), Stop> {
 }
 
 // Prints the ports.
-fn say_doors<R: Print>(rt: &R, listening: &Listening<'_>) -> Result<(), Stop> {
+fn say_doors<R: Print>(rt: &R, listening: Listening<'_>) -> Result<(), Stop> {
     say(rt, "address", listening.address)?;
     say_number(rt, "port", u32::from(listening.port))?;
     if let Some(web) = listening.web {
@@ -80,7 +80,7 @@ fn say_doors<R: Print>(rt: &R, listening: &Listening<'_>) -> Result<(), Stop> {
 }
 
 // Prints the limits.
-fn say_limits<R: Print>(rt: &R, listening: &Listening<'_>) -> Result<(), Stop> {
+fn say_limits<R: Print>(rt: &R, listening: Listening<'_>) -> Result<(), Stop> {
     say_number(rt, "total", listening.total)?;
     say_number(rt, "per-address", listening.per_address)?;
     say_number(rt, "idle", listening.idle)?;
@@ -91,7 +91,7 @@ fn say_limits<R: Print>(rt: &R, listening: &Listening<'_>) -> Result<(), Stop> {
 }
 
 // Prints the files.
-fn say_files<R: Print>(rt: &R, listening: &Listening<'_>) -> Result<(), Stop> {
+fn say_files<R: Print>(rt: &R, listening: Listening<'_>) -> Result<(), Stop> {
     say_file(rt, "journal", listening.journal)?;
     say_file(rt, "load", listening.load)?;
     say_file(rt, "bans", listening.bans)?;
@@ -102,7 +102,7 @@ fn say_files<R: Print>(rt: &R, listening: &Listening<'_>) -> Result<(), Stop> {
 // Returns the entries that a server would continue: those of the last volume. It does not make a journal.
 fn entries_of<R: Runtime + Files<File = File> + NamedFiles + AllocGlobal + Sync>(
     rt: &R,
-    listening: &Listening<'_>,
+    listening: Listening<'_>,
 ) -> Result<Vec<Entry>, Stop> {
     let Some(name) = listening.journal else {
         return load_entries(rt, listening.load);
@@ -121,7 +121,7 @@ fn entries_of<R: Runtime + Files<File = File> + NamedFiles + AllocGlobal + Sync>
 
 /// Prints what a server would do. It reads the files and binds the ports, but changes nothing. The last line is the
 /// number of changes that the server would continue.
-pub(crate) fn check<R>(rt: &R, listening: &Listening<'_>) -> Result<(), Stop>
+pub(crate) fn check<R>(rt: &R, listening: Listening<'_>) -> Result<(), Stop>
 where
     R: Runtime
         + Files<File = File>
@@ -129,7 +129,7 @@ where
         + AllocGlobal
         + Sync
         + Net<Listener = TcpListener, Stream = TcpStream>,
-    requires { AreWithin listening.now.limits }
+    requires { AreWithin listening.limits }
 {
     say(rt, "version", version())?;
     say_doors(rt, listening)?;

@@ -40,7 +40,7 @@ fn main(rt: HostRuntime) -> ExitCode {
         Err(fault) => return tell_fault(&rt, fault),
     };
     keep_freed(rt.alloc());
-    let listening = match &service {
+    let listening = match service {
         Service::Script(scripting) => return status_of(&rt, answer(&rt, scripting)),
         Service::Listen(listening) if listening.is_check => {
             return status_of(&rt, check(&rt, listening));
@@ -80,7 +80,7 @@ fn log_start<R: Log>(rt: &R, status_port: Option<u16>) {
 }
 
 // Returns the stop flag, if a console may set it.
-fn sign_for<'a>(listening: &Listening<'_>, sign: &'a StopSign) -> Option<&'a StopSign> {
+fn sign_for<'a>(listening: Listening<'_>, sign: &'a StopSign) -> Option<&'a StopSign> {
     if listening.console || listening.control.is_some() {
         Some(sign)
     } else {

@@ -23,9 +23,9 @@ const WIZARD: &str = "#1";
 /// entries, and its history is written at its end.
 pub(crate) fn answer<R: Runtime + AllocGlobal + Files<File = File> + Threads + Wait + Sync>(
     rt: &R,
-    scripting: &Scripting<'_>,
+    scripting: Scripting<'_>,
 ) -> Result<(), Stop>
-    requires { AreWithin scripting.now.limits }
+    requires { AreWithin scripting.limits }
 {
     if scripting.load.is_none() && scripting.player.is_none() && scripting.history.is_none() {
         return answer_alone(rt, scripting.limits);
@@ -67,7 +67,7 @@ fn is_there<R: Files<File = File>>(rt: &R, name: Option<&str>) -> bool {
 // Returns the entries that the script continues.
 fn entries_of<R: Runtime + AllocGlobal>(
     rt: &R,
-    scripting: &Scripting<'_>,
+    scripting: Scripting<'_>,
 ) -> Result<Vec<Entry>, Stop> {
     let Some(name) = scripting.load else {
         return Ok(Vec::new(rt.alloc()));
@@ -97,10 +97,10 @@ fn tell_torn<R: Eprint>(rt: &R, torn: usize) {
 // Answers the lines after these entries.
 fn answer_on<R: Runtime + AllocGlobal + Files<File = File> + Threads + Wait + Sync>(
     rt: &R,
-    scripting: &Scripting<'_>,
+    scripting: Scripting<'_>,
     entries: Vec<Entry>,
 ) -> Result<(), Stop>
-    requires { AreWithin scripting.now.limits }
+    requires { AreWithin scripting.limits }
 {
     let mut source = Source::new(rt.reader());
     let mut sink = Sink::new(io::writer(rt));

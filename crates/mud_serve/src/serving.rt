@@ -66,7 +66,7 @@ fn web_door<R: AllocGlobal + Net<Listener = TcpListener, Stream = TcpStream>>(
 /// Binds the listeners of the command line.
 pub(crate) fn doors<R: AllocGlobal + Net<Listener = TcpListener, Stream = TcpStream>>(
     rt: &R,
-    listening: &Listening<'_>,
+    listening: Listening<'_>,
 ) -> Result<Doors, Stop> {
     let telnet = bind(rt, listening.address, listening.port)?;
     let web = match listening.web {
@@ -100,8 +100,8 @@ pub(crate) fn listen<
         + Clock
         + Sync
         + Net<Listener = TcpListener, Stream = TcpStream>,
->(rt: &R, listening: &Listening<'_>, hosting: Hosting<'_>) -> Result<(), Stop>
-    requires { AreWithin listening.now.limits }
+>(rt: &R, listening: Listening<'_>, hosting: Hosting<'_>) -> Result<(), Stop>
+    requires { AreWithin listening.limits }
 {
     let limits = mud_server_volume::Limits {
         // Each session has a desk of its own.
@@ -132,7 +132,7 @@ fn keep_nothing<
         + Net<Listener = TcpListener, Stream = TcpStream>,
 >(
     rt: &R,
-    listening: &Listening<'_>,
+    listening: Listening<'_>,
     limits: mud_server_volume::Limits,
     hosting: Hosting<'_>,
 ) -> Result<(), Stop>
@@ -165,7 +165,7 @@ fn keep_journal<
         + Net<Listener = TcpListener, Stream = TcpStream>,
 >(
     rt: &R,
-    listening: &Listening<'_>,
+    listening: Listening<'_>,
     limits: mud_server_volume::Limits,
     hosting: Hosting<'_>,
     name: &str,
@@ -201,7 +201,7 @@ fn keep_volumes<
         + Net<Listener = TcpListener, Stream = TcpStream>,
 >(
     rt: &R,
-    listening: &Listening<'_>,
+    listening: Listening<'_>,
     limits: mud_server_volume::Limits,
     hosting: Hosting<'_>,
     shelf: S,

@@ -41,11 +41,18 @@ def connected(port, source, name):
     return one
 
 
+def read_all(one):
+    """Reads what comes until the connection ends, however long nothing comes."""
+    while True:
+        with contextlib.suppress(TimeoutError):
+            if not one.recv(65_536):
+                return
+
+
 def flood(port, source, name):
     """Sends changes as fast as the server takes them, and reads everything."""
     one = connected(port, source, name)
-    reading = threading.Thread(target=lambda: [None for _ in iter(lambda: one.recv(65_536), b"")], daemon=True)
-    reading.start()
+    threading.Thread(target=read_all, args=(one,), daemon=True).start()
     while True:
         with contextlib.suppress(TimeoutError):
             one.sendall(b"say flood\r\n" * 100)

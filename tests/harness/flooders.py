@@ -42,7 +42,7 @@ def connected(port, source, name):
 
 
 def read_all(one):
-    """Reads what comes until the connection ends, however long nothing comes."""
+    """Reads until the connection ends. Silence does not end it."""
     while True:
         with contextlib.suppress(TimeoutError):
             if not one.recv(65_536):

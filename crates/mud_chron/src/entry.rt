@@ -12,10 +12,16 @@ use std::marker::Model;
 /// An accepted change, and the desk that made it. Every entry can be written as text (`IsEntry`): the desk is 1 to 64,
 /// object numbers are 0 to 8,191, and a cost is 0 to 10,000. A dig to an existing room has an exit. A contract sees the
 /// desk and the change.
-#[derive(Drop)]
 pub struct Entry {
     desk: u32,
     change: Change,
+}
+
+impl Drop for Entry {
+    fn drop(self) {
+        let Entry { desk: _, change } = self;
+        drop(change);
+    }
 }
 
 impl Model for Entry {

@@ -24,13 +24,27 @@ use std::thread::Threads;
 
 /// The parts of a client that name no hall: the framing of its bytes, the typed text that waits for an answer, and its
 /// session.
-#[derive(Drop)]
 pub(crate) struct Link {
     pub(crate) framing: Framing,
     pub(crate) waiting: Vec<u8>,
     pub(crate) session: Session,
     // the memory of frames that were sent
     pub(crate) spare: Vec<u8>,
+}
+
+impl Drop for Link {
+    fn drop(self) {
+        let Link {
+            framing,
+            waiting,
+            session,
+            spare,
+        } = self;
+        drop(framing);
+        drop(waiting);
+        drop(session);
+        drop(spare);
+    }
 }
 
 /// A session at its desk, the framing of its bytes, and the typed text that waits for an answer. Unless the client has

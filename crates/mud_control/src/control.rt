@@ -25,7 +25,6 @@ pub struct Hosting<'s> {
 }
 
 /// The state that the threads of a server share with those of its host.
-#[derive(Drop)]
 pub struct Control {
     alloc: Global,
     /// The stop flag.
@@ -48,6 +47,37 @@ pub struct Control {
     is_counting: AtomicBool,
     // True once the host requested the next volume.
     wants_volume: AtomicBool,
+}
+
+impl Drop for Control {
+    fn drop(self) {
+        let Control {
+            alloc: _,
+            sign,
+            tally,
+            roster,
+            news,
+            crowd,
+            excess,
+            rates: _,
+            bans,
+            has_bans,
+            countdown,
+            is_counting,
+            wants_volume,
+        } = self;
+        drop(sign);
+        drop(tally);
+        drop(roster);
+        drop(news);
+        drop(crowd);
+        drop(excess);
+        drop(bans);
+        drop(has_bans);
+        drop(countdown);
+        drop(is_counting);
+        drop(wants_volume);
+    }
 }
 
 impl<'s> Hosting<'s> {

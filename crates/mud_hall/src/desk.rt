@@ -25,12 +25,23 @@ const REUSED_NOTICES: usize = 16;
 
 /// One caller's side of a hall: its player, its replica of the history, its accepted calls, and its notices. All but
 /// the number and the player is boxed, so that a desk is cheap to move.
-#[derive(Drop)]
 pub struct Desk<J: HallName> {
     pub(crate) number: u32,
     pub(crate) player: Option<u32>,
     pub(crate) inner: Box<Inner>,
     of: PhantomData<J>,
+}
+
+impl<J: HallName> Drop for Desk<J> {
+    fn drop(self) {
+        let Desk {
+            number: _,
+            player: _,
+            inner,
+            of: _,
+        } = self;
+        drop(inner);
+    }
 }
 
 /// The boxed parts of a desk.

@@ -19,11 +19,21 @@ use std::marker::{Model, PhantomData};
 const MOST_FOLLOWED: u32 = 16;
 
 /// The number of desks given, and the loaded entries. A contract sees the number.
-#[derive(Drop)]
 pub struct Kept<J: HallName> {
     given: u32,
     pub(crate) start: Pass,
     of: PhantomData<J>,
+}
+
+impl<J: HallName> Drop for Kept<J> {
+    fn drop(self) {
+        let Kept {
+            given: _,
+            start,
+            of: _,
+        } = self;
+        drop(start);
+    }
 }
 
 impl<J: HallName> Model for Kept<J> {
@@ -90,10 +100,16 @@ impl<J: HallName> Kept<J> {
 
 /// The hall's own replica, which new desks copy. It begins with the loaded entries. A contract sees the number of
 /// entries that it knows.
-#[derive(Drop)]
 pub struct Fresh<J: HallName> {
     known: Replica,
     of: PhantomData<J>,
+}
+
+impl<J: HallName> Drop for Fresh<J> {
+    fn drop(self) {
+        let Fresh { known, of: _ } = self;
+        drop(known);
+    }
 }
 
 impl<J: HallName> Model for Fresh<J> {

@@ -18,12 +18,24 @@ use std::alloc::{AllocError, Global};
 use std::marker::Model;
 
 // The slots of the rooms, and a priority queue of the waiting ones. A contract sees the slots.
-#[derive(Drop)]
 pub(crate) struct Board {
     slots: Vec<Slot>,
     order: Queue,
     waiting: usize,
     held: usize,
+}
+
+impl Drop for Board {
+    fn drop(self) {
+        let Board {
+            slots,
+            order,
+            waiting: _,
+            held: _,
+        } = self;
+        drop(slots);
+        drop(order);
+    }
 }
 
 impl Model for Board {

@@ -27,12 +27,24 @@ const NUMBERED_BYTES: usize = 16;
 const COPIED_BYTES: usize = 4096;
 
 /// A session: its terminal, whether it has ended, and its output.
-#[derive(Drop)]
 pub struct Session {
     alloc: Global,
     terminal: Nvt,
     has_ended: bool,
     out: Vec<u8>,
+}
+
+impl Drop for Session {
+    fn drop(self) {
+        let Session {
+            alloc: _,
+            terminal,
+            has_ended: _,
+            out,
+        } = self;
+        drop(terminal);
+        drop(out);
+    }
 }
 
 impl Model for Session {

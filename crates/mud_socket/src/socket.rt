@@ -59,7 +59,6 @@ impl Entrance {
 }
 
 /// The socket of a connection, its entrance, and the first reason why its session ended.
-#[derive(Drop)]
 pub struct Socket {
     stream: TcpStream,
     entrance: Entrance,
@@ -71,6 +70,24 @@ pub struct Socket {
     // The text that the other side did not take before the session rested, and that comes before any other. Threads
     // send under the session's lock, so it stays in order.
     kept: Mutex<Vec<u8>>,
+}
+
+impl Drop for Socket {
+    fn drop(self) {
+        let Socket {
+            stream,
+            entrance: _,
+            parting,
+            is_dismissed,
+            is_resting,
+            kept,
+        } = self;
+        drop(stream);
+        drop(parting);
+        drop(is_dismissed);
+        drop(is_resting);
+        drop(kept);
+    }
 }
 
 /// Returns an address and port, with an IPv4-mapped address as IPv4 (RFC 4291, section 2.5.5.2). So a connection has

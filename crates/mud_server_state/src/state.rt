@@ -29,6 +29,9 @@ const TYPING_RESTS: u32 = 2;
 
 const LEAST_TYPING_MICROSECONDS: u64 = 512;
 
+// The greatest number of sessions with which a reader thread lets other threads run before it reads.
+const MOST_GIVING_WAY: u32 = 16;
+
 /// Places for sessions. Each has a lock of its own, under which no other lock is taken.
 #[derive(Drop)]
 pub struct Places<J: HallName> {
@@ -95,6 +98,12 @@ impl<H, P, G> ServerState<H, P, G> {
         self.notice_rest()
             .saturating_mul(TYPING_RESTS)
             .max(Duration::from_micros(LEAST_TYPING_MICROSECONDS))
+    }
+
+    /// Returns whether a reader thread lets the other threads run before it reads. With few sessions the next line has
+    /// often come by then, and the thread need not sleep. With many the thread would wait for too many others.
+    pub fn gives_way(&self) -> bool {
+        self.session_count() <= MOST_GIVING_WAY
     }
 
     /// Counts a session that became a player's.

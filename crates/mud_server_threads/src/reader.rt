@@ -10,7 +10,7 @@ use mud_client::{Client, Outgoing};
 use mud_control::{Pace, Refusal};
 use mud_hall::HallName;
 use mud_server_state::Commits;
-use mud_socket::{Entrance, Parting, Patience, now, rest, unix_seconds};
+use mud_socket::{Entrance, Parting, Patience, give_way, now, rest, unix_seconds};
 use mud_web::{FirstLine, Verdict};
 use std::alloc::Global;
 use std::sync::Wait;
@@ -371,6 +371,9 @@ impl<'a, J: HallName, G: Commits<J>, R: Threads + Wait + Log + Clock + Sync> Rea
             if has_more {
                 waits = self.step(&[]);
                 continue;
+            }
+            if self.state.gives_way() {
+                give_way();
             }
             let socket = self.connection.socket();
             match socket.read(self.rt, self.patience(), &mut buffer) {

@@ -19,4 +19,4 @@ pub use head::{HEAD_SECONDS, HeadReader, Heard, hear, refuse};
 pub use parting::{Ending, Parting};
 pub use patience::Patience;
 pub use socket::{Entrance, Socket, canonical, set_up};
-pub use time::{now, rest, unix_seconds};
+pub use time::{give_way, now, rest, unix_seconds};

@@ -7,7 +7,6 @@ use crate::options::probe;
 use crate::parting::{Ending, Parting};
 use crate::patience::Patience;
 use crate::time::now;
-use libc::sched_yield;
 use std::alloc::Global;
 use std::io::{ErrorKind, Read, Write};
 use std::net::{IpAddr, Ipv4Addr, Shutdown, SocketAddr, TcpStream};
@@ -209,8 +208,6 @@ impl Socket {
     {
         let mut stream = &self.stream;
         patience.wait(now(clock))?;
-        // In a busy server bytes often come while the other threads run, and this one need not sleep for them.
-        let _ = sched_yield();
         match stream.read(buffer) {
             Ok(0) => Err(Parting::Left),
             Ok(count) => Ok(count),

@@ -8,8 +8,9 @@ use crate::limits::Limits;
 use crate::lobby::Lobby;
 use crate::place::{NoPlace, Place};
 use log::{Log, warn};
+use mud_chron::Entry;
 use mud_control::{Control, host_of};
-use mud_hall::{Desk, Fault, Hall, HallName};
+use mud_hall::{Desk, Fault, Hall, HallName, Reader};
 use mud_journal::Receipt;
 use mud_socket::Ending;
 use std::alloc::{AllocError, Global};
@@ -38,21 +39,14 @@ pub struct Places<J: HallName> {
     list: Vec<Mutex<Place<J>>>,
 }
 
-/// The state that all threads of a server share.
-///
-/// `StateOf` of `mud_server_threads` has its types. The hall, the places and the gate are type parameters, because the
-/// prover finds that threads may share the state only by a lemma about its parts.
+/// The part of a server's state that names no hall: what its host controls, the lobby, the limits, and the counters and
+/// flags of its sessions.
 #[derive(Drop)]
-pub struct ServerState<H, P, G> {
-    pub hall: H,
-    places: P,
+pub struct Shared {
     /// The state that the server shares with the threads of its host.
     pub control: Arc<Control>,
     pub lobby: Lobby,
     pub limits: Limits,
-    pub gate: G,
-    // Held while a desk is chosen; the locks of places come after it.
-    choosing: Mutex<()>,
     // The number of places taken.
     taken: AtomicU32,
     // The number of sessions that became a player's.
@@ -69,6 +63,68 @@ pub struct ServerState<H, P, G> {
     ghost few: { limits.workers ≤ MOST_WORKERS },
 }
 
+/// The state that all threads of a server share.
+///
+/// `StateOf` of `mud_server_threads` has its types. The hall, the places and the gate are type parameters, because the
+/// prover finds that threads may share the state only by a lemma about its parts.
+#[derive(Drop)]
+pub struct ServerState<H, P, G> {
+    pub hall: H,
+    places: P,
+    pub gate: G,
+    pub shared: Shared,
+    // Held while a desk is chosen; the locks of places come after it.
+    choosing: Mutex<()>,
+}
+
+/// A server's state as its threads use it, without the types of its hall. A proof spells out all types that its values
+/// reach, so the proofs of functions over this trait cost a fraction (docs/DECISIONS.md, "The cost of a proof").
+pub trait Shares {
+    /// Returns the part that names no hall.
+    fn shared(&self) -> &Shared;
+
+    /// Returns the number of entries that the hall began with.
+    fn loaded_count(&self) -> u32;
+
+    /// Returns whether there is no journal.
+    fn lacks_journal(&self) -> bool;
+
+    /// Returns whether the journal has failed.
+    fn has_failed(&self) -> bool;
+
+    /// Returns the reason why all sessions should end, if they should.
+    fn ending(&self) -> Option<Ending>;
+
+    /// Takes the free place with the lowest number for a session of this address. The session itself counts for the
+    /// host of its address. So there are never too many sessions, but two connections racing for a host's last place
+    /// may both be refused.
+    fn take_place<R: Wait>(&self, rt: &R, address: IpAddr) -> Result<usize, NoPlace>;
+
+    /// Takes the free place with the lowest number, if there is one, whatever the limit of the address is.
+    fn take_free<R: Wait>(&self, rt: &R, address: IpAddr) -> Option<usize>;
+
+    /// Returns whether no place is taken.
+    fn is_empty<R: Wait>(&self, rt: &R) -> bool;
+
+    /// Announces at the time `now` that the hall has at least this many entries, the last one by the session at this
+    /// place. With a journal it makes them durable first. Then it wakes the notice threads of all other sessions, but
+    /// no thread that leaves the notices to the replies of a player who is typing.
+    fn announce_change<R: Wait>(&self, rt: &R, at: usize, version: usize, now: Duration);
+
+    /// Releases a place; a stored desk stays. The notice thread of its session is woken, so that it ends.
+    fn release_place<R: Wait>(&self, rt: &R, at: usize);
+}
+
+/// The entries of a server's hall, by readers of the type `K`. That is a type parameter, because the prover takes the
+/// bounds of an associated type to hold for one thread alone.
+pub trait Reads<K>: Shares {
+    /// Returns a reader of the hall's new entries, or `None` if an allocation fails.
+    fn reader<R: Wait>(&self, rt: &R) -> Option<K>;
+
+    /// Returns the next new entries, at most this many, or `None` if an allocation fails.
+    fn read(&self, alloc: Global, reader: &mut K, most: u32) -> Option<Vec<Entry>>;
+}
+
 // Returns this many free places.
 fn free_places<J: HallName>(alloc: Global, sessions: u32) -> Result<Places<J>, AllocError>
     ensures { IfOk result (λ places. length places.list.items ≡ sessions) }
@@ -80,7 +136,25 @@ fn free_places<J: HallName>(alloc: Global, sessions: u32) -> Result<Places<J>, A
     Ok(Places { list })
 }
 
-impl<H, P, G> ServerState<H, P, G> {
+impl Shared {
+    // Returns the state of a server without sessions.
+    fn new(limits: Limits, lobby: Lobby, control: Arc<Control>) -> Shared
+        requires { limits.workers ≤ MOST_WORKERS }
+    {
+        Shared {
+            control,
+            lobby,
+            limits,
+            taken: AtomicU32::new(0),
+            players: AtomicU32::new(0),
+            is_stopping: AtomicBool::new(false),
+            was_warned: AtomicBool::new(false),
+            is_turning: AtomicBool::new(false),
+            resting: AtomicU32::new(0),
+            held_from: AtomicU64::new(u64::MAX),
+        }
+    }
+
     /// Returns the number of places taken.
     pub fn session_count(&self) -> u32 {
         self.taken.load(Ordering::SeqCst)
@@ -165,90 +239,117 @@ impl<H, P, G> ServerState<H, P, G> {
     pub fn set_player_count(&self, count: u32) {
         self.players.store(count, Ordering::SeqCst);
     }
+
+    // Returns whether all sessions should end, because the server is shutting down.
+    fn is_stopping(&self) -> bool {
+        self.is_stopping.load(Ordering::SeqCst)
+    }
+
+    // Wakes the notice threads of all sessions but the one at this place, which made a change at the time `now`.
+    fn wake_hearers<R: Wait>(&self, rt: &R, at: usize, now: Duration) {
+        self.control
+            .roster
+            .wake_hearers(rt, Some(at), now, self.typing_time());
+    }
+
+    // Tells the host that the journal has failed, and wakes all notice threads.
+    fn tell_failure<R: Wait>(&self, rt: &R) {
+        self.control.tally.note_failure();
+        self.control.roster.wake_all(rt);
+    }
+
+    // Returns the lobby.
+    fn into_lobby(self) -> Lobby {
+        let Shared { lobby, .. } = self;
+        lobby
+    }
 }
 
-impl<J: HallName, G: Commits<J>> ServerState<Hall<J>, Places<J>, G> {
-    /// Returns the reason why all sessions should end, if they should.
-    pub fn ending(&self) -> Option<Ending> {
+impl<J: HallName, G: Commits<J>> Shares for ServerState<Hall<J>, Places<J>, G> {
+    fn shared(&self) -> &Shared {
+        &self.shared
+    }
+
+    fn loaded_count(&self) -> u32 {
+        self.hall.loaded_count()
+    }
+
+    fn lacks_journal(&self) -> bool {
+        self.gate.is_open()
+    }
+
+    fn has_failed(&self) -> bool {
+        self.gate.has_failed()
+    }
+
+    fn ending(&self) -> Option<Ending> {
         if self.gate.has_failed() {
             Some(Ending::JournalFault)
-        } else if self.is_stopping.load(Ordering::SeqCst) {
+        } else if self.shared.is_stopping() {
             Some(Ending::Stop)
         } else {
             None
         }
     }
 
-    /// Records for the host how many entries the journal has synced.
-    pub fn note_synced(&self) {
-        let synced = self.gate.synced_count() as u64;
-        self.control.tally.note_synced(synced);
-    }
-
-    /// Returns the state of a new server, with as many free places as there may be sessions.
-    pub fn new(
-        alloc: Global,
-        hall: Hall<J>,
-        limits: Limits,
-        gate: G,
-        lobby: Lobby,
-        control: Arc<Control>,
-    ) -> Result<ServerState<Hall<J>, Places<J>, G>, AllocError>
-        requires { limits.workers ≤ MOST_WORKERS }
-        ensures { IfOk result (λ state. length state.places.list.items ≡ limits.sessions) }
-    {
-        Ok(ServerState {
-            hall,
-            places: free_places(alloc, limits.sessions)?,
-            control,
-            lobby,
-            limits,
-            gate,
-            choosing: Mutex::new(()),
-            taken: AtomicU32::new(0),
-            players: AtomicU32::new(0),
-            is_stopping: AtomicBool::new(false),
-            was_warned: AtomicBool::new(false),
-            is_turning: AtomicBool::new(false),
-            resting: AtomicU32::new(0),
-            held_from: AtomicU64::new(u64::MAX),
-        })
-    }
-
-    /// Records for the host which volume the server continues or begins, and logs a warning if the history is nearly
-    /// full.
-    pub fn begin<R: Wait + Log>(&self, rt: &R, volume: u32) {
-        let loaded = self.hall.loaded_count();
-        self.control.tally.begin_volume(volume, u64::from(loaded));
-        if !self.gate.is_open() {
-            self.note_synced();
-        }
-        self.warn_if_nearly_full(rt, loaded as usize);
-    }
-
-    /// Takes the free place with the lowest number for a session of this address. The session itself counts for the
-    /// host of its address. So there are never too many sessions, but two connections racing for a host's last place
-    /// may both be refused.
-    pub fn take_place<R: Wait>(&self, rt: &R, address: IpAddr) -> Result<usize, NoPlace> {
+    fn take_place<R: Wait>(&self, rt: &R, address: IpAddr) -> Result<usize, NoPlace> {
         let address = host_of(address);
         let Some(at) = self.take_free(rt, address) else {
             return Err(NoPlace::Full);
         };
-        let most = self.limits.per_address;
-        if 0 < most && most < self.sessions_of(rt, address) {
+        let most = self.shared.limits.per_address;
+        if 0 < most && most < self.places.sessions_of(rt, address) {
             self.release_place(rt, at);
             return Err(NoPlace::TooMany);
         }
         Ok(at)
     }
 
-    /// Takes the free place with the lowest number, if there is one, whatever the limit of the address is.
-    pub fn take_free<R: Wait>(&self, rt: &R, address: IpAddr) -> Option<usize> {
-        for (at, place) in self.places.list.iter().enumerate() {
+    fn take_free<R: Wait>(&self, rt: &R, address: IpAddr) -> Option<usize> {
+        let at = self.places.take_free(rt, address)?;
+        self.shared.taken.fetch_add(1, Ordering::SeqCst);
+        Some(at)
+    }
+
+    fn is_empty<R: Wait>(&self, rt: &R) -> bool {
+        self.places.are_free(rt)
+    }
+
+    fn announce_change<R: Wait>(&self, rt: &R, at: usize, version: usize, now: Duration) {
+        if self.commit(rt, version).is_none() {
+            return;
+        }
+        if !self.gate.is_open() {
+            self.note_synced();
+        }
+        self.shared.wake_hearers(rt, at, now);
+    }
+
+    fn release_place<R: Wait>(&self, rt: &R, at: usize) {
+        self.shared.control.roster.leave(rt, at);
+        if self.places.release(rt, at) {
+            self.shared.taken.fetch_sub(1, Ordering::SeqCst);
+        }
+    }
+}
+
+impl<J: HallName, G: Commits<J>> Reads<Reader<J>> for ServerState<Hall<J>, Places<J>, G> {
+    fn reader<R: Wait>(&self, rt: &R) -> Option<Reader<J>> {
+        self.hall.reader(rt).ok()
+    }
+
+    fn read(&self, alloc: Global, reader: &mut Reader<J>, most: u32) -> Option<Vec<Entry>> {
+        reader.read(alloc, &self.hall, most).ok()
+    }
+}
+
+impl<J: HallName> Places<J> {
+    // Takes the free place with the lowest number for a session of this address.
+    fn take_free<R: Wait>(&self, rt: &R, address: IpAddr) -> Option<usize> {
+        for (at, place) in self.list.iter().enumerate() {
             let mut place = place.lock(rt);
             if place.address().is_none() {
                 place.take(address);
-                self.taken.fetch_add(1, Ordering::SeqCst);
                 return Some(at);
             }
         }
@@ -258,7 +359,7 @@ impl<J: HallName, G: Commits<J>> ServerState<Hall<J>, Places<J>, G> {
     // Returns the number of sessions of this address.
     fn sessions_of<R: Wait>(&self, rt: &R, address: IpAddr) -> u32 {
         let mut count = 0u32;
-        for place in &self.places.list {
+        for place in &self.list {
             if place.lock(rt).address() == Some(address) {
                 count = count.saturating_add(1);
             }
@@ -266,12 +367,24 @@ impl<J: HallName, G: Commits<J>> ServerState<Hall<J>, Places<J>, G> {
         count
     }
 
-    /// Takes the free desk with the lowest number for the session at a place, or a new one if none is free.
-    pub fn take_desk<R: Wait>(&self, rt: &R, at: usize) -> Result<Desk<J>, Fault> {
-        let _choice = self.choosing.lock(rt);
-        match self.take_lowest(rt, at) {
-            Some(desk) => Ok(desk),
-            None => self.hall.desk(rt),
+    // Returns whether no place is taken.
+    fn are_free<R: Wait>(&self, rt: &R) -> bool {
+        for place in &self.list {
+            if place.lock(rt).address().is_some() {
+                return false;
+            }
+        }
+        true
+    }
+
+    // Releases a place, if there is one with this number. A stored desk stays.
+    fn release<R: Wait>(&self, rt: &R, at: usize) -> bool {
+        match self.list.get(at) {
+            Some(place) => {
+                place.lock(rt).release();
+                true
+            }
+            None => false,
         }
     }
 
@@ -292,7 +405,7 @@ impl<J: HallName, G: Commits<J>> ServerState<Hall<J>, Places<J>, G> {
     fn place_of_lowest<R: Wait>(&self, rt: &R) -> Option<usize> {
         let mut found = None;
         let mut least = u32::MAX;
-        for (at, place) in self.places.list.iter().enumerate() {
+        for (at, place) in self.list.iter().enumerate() {
             if let Some(number) = place.lock(rt).desk_number()
                 && number < least
             {
@@ -305,17 +418,79 @@ impl<J: HallName, G: Commits<J>> ServerState<Hall<J>, Places<J>, G> {
 
     // Takes the desk stored at a place.
     fn take_kept<R: Wait>(&self, rt: &R, at: usize) -> Option<Desk<J>> {
-        self.places.list.get(at)?.lock(rt).take_desk()
+        self.list.get(at)?.lock(rt).take_desk()
     }
 
-    /// Returns whether no place is taken.
-    pub fn is_empty<R: Wait>(&self, rt: &R) -> bool {
-        for place in &self.places.list {
-            if place.lock(rt).address().is_some() {
-                return false;
+    // Stores a desk at a place.
+    fn keep_desk<R: Wait>(&self, rt: &R, at: usize, desk: Desk<J>) {
+        if let Some(place) = self.list.get(at) {
+            place.lock(rt).keep(desk);
+        }
+    }
+
+    // Returns the stored desks.
+    fn into_desks(self, alloc: Global) -> Result<Vec<Desk<J>>, AllocError>
+        ensures { IfOk result (λ desks. length desks.items ≤ length self.list.items) }
+    {
+        let mut desks = Vec::new(alloc);
+        for place in self.list {
+            if let Some(desk) = place.into_inner().into_desk() {
+                desks.push(desk)?;
             }
         }
-        true
+        Ok(desks)
+    }
+}
+
+impl<J: HallName, G: Commits<J>> ServerState<Hall<J>, Places<J>, G> {
+    /// Returns the state of a new server, with as many free places as there may be sessions.
+    pub fn new(
+        alloc: Global,
+        hall: Hall<J>,
+        limits: Limits,
+        gate: G,
+        lobby: Lobby,
+        control: Arc<Control>,
+    ) -> Result<ServerState<Hall<J>, Places<J>, G>, AllocError>
+        requires { limits.workers ≤ MOST_WORKERS }
+        ensures { IfOk result (λ state. length state.places.list.items ≡ limits.sessions) }
+    {
+        Ok(ServerState {
+            hall,
+            places: free_places(alloc, limits.sessions)?,
+            gate,
+            shared: Shared::new(limits, lobby, control),
+            choosing: Mutex::new(()),
+        })
+    }
+
+    /// Records for the host how many entries the journal has synced.
+    pub fn note_synced(&self) {
+        let synced = self.gate.synced_count() as u64;
+        self.shared.control.tally.note_synced(synced);
+    }
+
+    /// Records for the host which volume the server continues or begins, and logs a warning if the history is nearly
+    /// full.
+    pub fn begin<R: Wait + Log>(&self, rt: &R, volume: u32) {
+        let loaded = self.hall.loaded_count();
+        self.shared
+            .control
+            .tally
+            .begin_volume(volume, u64::from(loaded));
+        if !self.gate.is_open() {
+            self.note_synced();
+        }
+        self.shared.warn_if_nearly_full(rt, loaded as usize);
+    }
+
+    /// Takes the free desk with the lowest number for the session at a place, or a new one if none is free.
+    pub fn take_desk<R: Wait>(&self, rt: &R, at: usize) -> Result<Desk<J>, Fault> {
+        let _choice = self.choosing.lock(rt);
+        match self.places.take_lowest(rt, at) {
+            Some(desk) => Ok(desk),
+            None => self.hall.desk(rt),
+        }
     }
 
     /// Makes this many entries of the hall durable, or waits until another thread has done so. Returns no receipt if
@@ -327,41 +502,14 @@ impl<J: HallName, G: Commits<J>> ServerState<Hall<J>, Places<J>, G> {
     {
         let receipt = self.gate.commit(rt, &self.hall, version);
         if receipt.is_none() {
-            self.control.tally.note_failure();
-            self.control.roster.wake_all(rt);
+            self.shared.tell_failure(rt);
         }
         receipt
     }
 
-    /// Announces at the time `now` that the hall has at least this many entries, the last one by the session at this
-    /// place. With a journal it makes them durable first. Then it wakes the notice threads of all other sessions, but
-    /// no thread that leaves the notices to the replies of a player who is typing.
-    pub fn announce_change<R: Wait>(&self, rt: &R, at: usize, version: usize, now: Duration) {
-        if self.commit(rt, version).is_none() {
-            return;
-        }
-        if !self.gate.is_open() {
-            self.note_synced();
-        }
-        self.control
-            .roster
-            .wake_hearers(rt, Some(at), now, self.typing_time());
-    }
-
     /// Stores the desk of a session that has ended, for another session.
     pub fn keep_desk<R: Wait>(&self, rt: &R, at: usize, desk: Desk<J>) {
-        if let Some(place) = self.places.list.get(at) {
-            place.lock(rt).keep(desk);
-        }
-    }
-
-    /// Releases a place; a stored desk stays. The notice thread of its session is woken, so that it ends.
-    pub fn release_place<R: Wait>(&self, rt: &R, at: usize) {
-        self.control.roster.leave(rt, at);
-        if let Some(place) = self.places.list.get(at) {
-            place.lock(rt).release();
-            self.taken.fetch_sub(1, Ordering::SeqCst);
-        }
+        self.places.keep_desk(rt, at, desk);
     }
 
     /// Returns the hall, the stored desks, the lobby, and the gate.
@@ -371,25 +519,11 @@ impl<J: HallName, G: Commits<J>> ServerState<Hall<J>, Places<J>, G> {
         let ServerState {
             hall,
             places,
-            control: _,
-            lobby,
-            limits: _,
             gate,
+            shared,
             choosing: _,
-            taken: _,
-            players: _,
-            is_stopping: _,
-            was_warned: _,
-            is_turning: _,
-            resting: _,
-            held_from: _,
         } = self;
-        let mut desks = Vec::new(alloc);
-        for place in places.list {
-            if let Some(desk) = place.into_inner().into_desk() {
-                desks.push(desk)?;
-            }
-        }
-        Ok((hall, desks, lobby, gate))
+        let desks = places.into_desks(alloc)?;
+        Ok((hall, desks, shared.into_lobby(), gate))
     }
 }

@@ -33,8 +33,8 @@ connection_send J h s = search (sendable, crosses, client_send) depth 40 fits 20
 pub connection_sync : (J : RattleType) (h : HallName.Ghosts J.Denot) → IsSend J → IsSync (Connection.the_row J h)
 connection_sync J h s = search (sendable, crosses, client_send) depth 40 fits 20000
 
-pub post_send : (J : RattleType) (h : HallName.Ghosts J.Denot) → IsSend J → IsSend (Post.the_row J h)
-post_send J h s = search (connection_send, connection_sync, sendable, crosses) depth 40 fits 20000
+pub post_send : (C : RattleType) → IsSend C → IsSync C → IsSend (Post.the_row C)
+post_send C s y = search (sendable, crosses) depth 40 fits 20000
 
 -- what a reader thread knows of its session, and the sessions that rest
 pub habits_send : IsSend Habits.the_row
@@ -47,6 +47,6 @@ pub quay_sync : IsSync Quay.the_row
 quay_sync = quay.the_sync
 
 -- the values that a thread of a server starts with
-pub server_send : (ℓ : NamedLft) (E J G R : RattleType) (h : HallName.Ghosts J.Denot) → IsSend J → IsSync J → IsSync G
-    → IsSync R → IsSend (Server.the_row ℓ E J G R h)
-server_send ℓ E J G R h s y g r = search (sendable, scope.the_sync, state_sync, quay_sync, crosses) depth 40 fits 20000
+pub server_send : (ℓ : NamedLft) (E S C R : RattleType) → IsSync S → IsSend C → IsSync R
+    → IsSend (Server.the_row ℓ E S C R)
+server_send ℓ E S C R s c r = search (sendable, scope.the_sync, quay_sync, crosses) depth 40 fits 20000

@@ -1,10 +1,10 @@
 //! Browsers: a thread of its own reads each browser's head, and continues as the reader thread of a session if the
 //! browser plays.
 
+use crate::connection::{Converses, leave};
 use crate::server::{Begun, Server};
 use log::Log;
-use mud_hall::HallName;
-use mud_server_state::{Commits, NoPlace};
+use mud_server_state::NoPlace;
 use mud_socket::{Entrance, HeadReader, Heard, Socket, hear, refuse, set_up};
 use mud_web::Channel;
 use std::alloc::{AllocError, Global};
@@ -24,10 +24,10 @@ struct Caller {
     chair: u64,
 }
 
-impl<'s, E, J, G, R> Server<'s, E, J, G, R>
+impl<'s, E, S, C, R> Server<'s, E, S, C, R>
 where
-    J: HallName + Send + Sync + 's,
-    G: Commits<J> + Sync + 's,
+    S: Converses<C> + Sync + 's,
+    C: Drop + Send + Sync + 's,
     R: Threads + Wait + Log + Clock + Sync + 's,
 {
     // Admits a browser to the place, and runs the reader thread of its session to its end.
@@ -35,7 +35,7 @@ where
         let state = self.state;
         let Some(begun) = self.open(at, socket) else {
             state.release_place(self.rt, at);
-            state.lobby.settle_ticket(&state.limits, false);
+            self.settle(false);
             return;
         };
         let Begun {
@@ -45,12 +45,13 @@ where
             sleeper,
             number,
         } = begun;
-        let has_begun = reads.let_in(self.rt, answer) && self.begin_telling(tells, sleeper);
-        state.lobby.settle_ticket(&state.limits, has_begun);
+        let has_begun = self.state.socket(&*reads).send(self.rt, answer).is_ok()
+            && self.begin_telling(tells, sleeper);
+        self.settle(has_begun);
         if has_begun {
             self.read(&reads, at, number, first);
         } else {
-            kept.leave(self.rt, state, at);
+            leave(self.rt, state, &*kept, at);
         }
     }
 
@@ -75,12 +76,12 @@ where
     ) {
         match self.admit(address) {
             Ok(at) => {
-                self.state.lobby.release_chair(self.rt, chair);
+                self.state.shared().lobby.release_chair(self.rt, chair);
                 self.play_at(at, socket, &answer, first);
             }
             Err(no_place) => {
                 self.turn_away(&socket, no_place, answer);
-                self.state.lobby.release_chair(self.rt, chair);
+                self.state.shared().lobby.release_chair(self.rt, chair);
             }
         }
     }
@@ -88,12 +89,17 @@ where
     // Reads the request of a browser.
     fn heard(&self, socket: &Socket) -> Heard {
         let mut reader = HeadReader::new(self.rt, socket);
-        hear(self.rt, self.alloc, &mut reader, self.state.lobby.origin())
+        hear(
+            self.rt,
+            self.alloc,
+            &mut reader,
+            self.state.shared().lobby.origin(),
+        )
     }
 
     // Reads the request of a browser, and answers it.
     fn attend(&self, caller: Caller) {
-        let (rt, lobby) = (self.rt, &self.state.lobby);
+        let (rt, lobby) = (self.rt, &self.state.shared().lobby);
         let Caller {
             socket,
             address,
@@ -121,10 +127,10 @@ where
         }
         let socket = Arc::new(self.alloc, Socket::new(self.alloc, stream, Entrance::Web)).ok()?;
         let theirs = Arc::try_clone(&socket).ok()?;
-        let state = self.state;
-        let chair = state
+        let shared = self.state.shared();
+        let chair = shared
             .lobby
-            .take_chair(self.rt, theirs, address, &state.limits)?;
+            .take_chair(self.rt, theirs, address, &shared.limits)?;
         Some(Caller {
             socket,
             address,
@@ -145,7 +151,7 @@ where
         let chair = caller.chair;
         let hearing = self.scope.spawn(move || server.attend(caller));
         if hearing.is_err() {
-            self.state.lobby.release_chair(self.rt, chair);
+            self.state.shared().lobby.release_chair(self.rt, chair);
         }
     }
 }

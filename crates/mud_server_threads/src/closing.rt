@@ -1,9 +1,7 @@
 //! Ends the sessions of a volume, or lets them rest.
 
-use crate::connection::StateOf;
 use mud_control::StopSign;
-use mud_hall::HallName;
-use mud_server_state::Commits;
+use mud_server_state::Shares;
 use mud_socket::{Ending, now, rest};
 use std::sync::Wait;
 use std::time::{Clock, Duration};
@@ -32,17 +30,17 @@ pub enum Remaining {
 }
 
 /// Waits a moment, and looks which sessions are left. If the stop flag is set, they should end.
-pub fn look_at_rest<J: HallName, G: Commits<J>, R: Wait + Clock>(
+pub fn look_at_rest<S: Shares, R: Wait + Clock>(
     rt: &R,
-    state: &StateOf<J, G>,
+    state: &S,
     stop: Option<&StopSign>,
 ) -> Remaining {
-    state.control.tick(rt, now(rt));
+    state.shared().control.tick(rt, now(rt));
     if let Some(sign) = stop
         && sign.is_set()
     {
-        state.stop_sessions();
-        state.control.roster.wake_all(rt);
+        state.shared().stop_sessions();
+        state.shared().control.roster.wake_all(rt);
     }
     if let Some(ending) = state.ending() {
         return Remaining::Ends(ending);
@@ -56,44 +54,37 @@ pub fn look_at_rest<J: HallName, G: Commits<J>, R: Wait + Clock>(
 
 // Returns whether no session is left, and no browser in the lobby can begin one: a browser takes its place before it
 // leaves the lobby.
-fn is_empty<J: HallName, G: Commits<J>, R: Wait>(rt: &R, state: &StateOf<J, G>) -> bool {
-    state.lobby.is_empty() && state.is_empty(rt)
+fn is_empty<S: Shares, R: Wait>(rt: &R, state: &S) -> bool {
+    state.shared().lobby.is_empty() && state.is_empty(rt)
 }
 
 /// Waits five seconds until no session is left, and then shuts the sockets of the others, which ends the reads and
 /// writes of their threads.
-pub fn shut_late<J: HallName, G: Commits<J>, R: Wait>(
-    rt: &R,
-    state: &StateOf<J, G>,
-    ending: Ending,
-) {
+pub fn shut_late<S: Shares, R: Wait>(rt: &R, state: &S, ending: Ending) {
     for _ in 0..LAST_LOOKS {
         if is_empty(rt, state) {
             return;
         }
         rest(rt, Duration::from_millis(LOOK_MILLISECONDS));
     }
-    state.control.roster.shut_all(rt, ending);
+    state.shared().control.roster.shut_all(rt, ending);
 }
 
 /// Makes all sessions rest, once no browser in the lobby can begin one any more. A browser has half a second to finish
 /// its request, while play goes on; then its socket is shut, and it has to ask again. Returns the time at which the
 /// sessions began to rest.
-pub fn begin_rest<J: HallName, G: Commits<J>, R: Wait + Clock>(
-    rt: &R,
-    state: &StateOf<J, G>,
-) -> Duration {
+pub fn begin_rest<S: Shares, R: Wait + Clock>(rt: &R, state: &S) -> Duration {
     for look in 0..u32::MAX {
-        if state.lobby.is_empty() {
+        if state.shared().lobby.is_empty() {
             break;
         }
-        if look >= LOBBY_LOOKS || state.is_held() {
-            state.lobby.send_away(rt);
+        if look >= LOBBY_LOOKS || state.shared().is_held() {
+            state.shared().lobby.send_away(rt);
         }
         rest(rt, Duration::from_millis(LOBBY_MILLISECONDS));
     }
     let since = now(rt);
-    state.turn();
-    state.control.roster.begin_rest(rt);
+    state.shared().turn();
+    state.shared().control.roster.begin_rest(rt);
     since
 }

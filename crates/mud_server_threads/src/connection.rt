@@ -1,24 +1,185 @@
 //! Connections: the two threads of a session share one, and these are their common operations.
 
+ghost use Rattle.std.specs.Thread.{IsSync};
+
 use crate::quay::Quay;
 use mud_client::{Client, End, Framing, Outgoing, RestingClient, Sayings};
-use mud_control::Control;
 use mud_hall::{Hall, HallName};
 use mud_journal::Held;
-use mud_server_state::{Commits, Places, ServerState};
-use mud_socket::{Ending, Entrance, Parting, Socket, rest};
+use mud_server_state::{Commits, Places, ServerState, Shared, Shares};
+use mud_socket::{Ending, Entrance, Parting, Socket, now, rest};
 use std::alloc::Global;
 use std::sync::atomic::{AtomicBool, AtomicU64, Ordering};
 use std::sync::{Arc, Mutex, Wait};
+use std::thread::Threads;
 use std::time::{Clock, Duration};
 
 /// The state of the hall that `J` names, whose changes `G` makes durable.
 pub type StateOf<J, G> = ServerState<Hall<J>, Places<J>, G>;
 
-/// A connection: its socket, and its client during the session. Only the reader thread and the notice thread of the
-/// session take the session's lock.
+/// The results of a step of a session, and the times at which it began and ended.
+#[derive(Clone, Copy)]
+pub struct Stepped {
+    /// True if a line ended in the answered input.
+    pub has_line: bool,
+    /// True if more lines wait.
+    pub has_more: bool,
+    /// True if the session has a player now.
+    pub has_player: bool,
+    /// True if it has no output.
+    pub is_silent: bool,
+    /// The least number of entries in the history, if a change was accepted.
+    pub accepted: Option<usize>,
+    pub begun: Duration,
+    pub ended: Duration,
+}
+
+/// The work after each step of a session, before its output is sent.
+pub trait Follows {
+    /// Follows a step.
+    fn follow(&mut self, stepped: Stepped);
+}
+
+/// A server's state as the two threads of a session use it with the session's connection, whose type is `C`. Only these
+/// two threads take the session's lock.
+pub trait Converses<C>: Shares {
+    /// Returns a connection whose session has not begun. It does not get the first `told` announcements.
+    fn connection(&self, socket: Arc<Socket>, told: u64) -> C;
+
+    /// Returns its socket.
+    fn socket<'a>(&self, connection: &'a C) -> &'a Socket;
+
+    /// Records that the reader thread ends the session.
+    fn hang_up(&self, connection: &C);
+
+    /// Returns whether the reader thread ends the session.
+    fn is_hanging_up(&self, connection: &C) -> bool;
+
+    /// Begins the session at a place. Returns the number of its desk, or `None` if an allocation fails or no desk is
+    /// left.
+    fn start<R: Wait>(&self, rt: &R, alloc: Global, connection: &C, at: usize) -> Option<u32>;
+
+    /// Makes the session look for all changes of its volume, in which no session changes anything any more. Returns
+    /// whether the session continues.
+    fn look_at_all<R: Wait + Clock>(&self, rt: &R, connection: &C) -> bool;
+
+    /// Returns the parts that outlive the volume: the socket, the client without the desk, and the number of
+    /// announcements that the session was told. The desk is stored. Returns `None` if the session has ended; one whose
+    /// output waits ends.
+    fn rest<R: Wait>(
+        &self,
+        rt: &R,
+        connection: &C,
+        at: usize,
+    ) -> Option<(Arc<Socket>, RestingClient, u64)>;
+
+    /// Continues a session that rested, at a new desk. Returns the number of the desk, or `None` if an allocation fails
+    /// or no desk is left. A session that comes from an earlier volume is told the number of this one. If its player
+    /// can't sit down, it is a guest's, and is told so.
+    fn go_on<R: Wait>(
+        &self,
+        rt: &R,
+        alloc: Global,
+        connection: &C,
+        at: usize,
+        resting: RestingClient,
+        quay: &Quay,
+    ) -> Option<u32>;
+
+    /// Returns the desk to its place and leaves the socket open, for a web socket that was closed already.
+    fn give_back<R: Wait>(&self, rt: &R, connection: &C, at: usize);
+
+    /// Feeds bytes to the session, under its lock. `follows` asks for the sync of an accepted change before the output
+    /// is sent, because a send may wait for the other side. A question is answered by the synced entries, so it waits
+    /// for no sync. Returns whether the session continues, and `None` if it has ended.
+    ///
+    /// If the session should end, it sends that in place of an answer. It sends the host's announcements first, because
+    /// a player who types without a pause leaves the notice thread no moment in which the lock is free.
+    fn feed<R: Threads + Wait + Sync, K: Wait + Clock, F: Follows>(
+        &self,
+        rt: &R,
+        clock: &K,
+        connection: &C,
+        bytes: &[u8],
+        follows: &mut F,
+    ) -> Option<(Stepped, bool)>
+        requires { IsSync R.row };
+
+    /// Ends the session for this reason, unless it has ended for another. It closes a web socket if the session's lock
+    /// becomes free within four seconds; a thread that holds it longer waits for the other side. Returns whether it was
+    /// closed.
+    fn part<R: Wait>(&self, rt: &R, connection: &C, parting: Parting) -> bool;
+
+    /// Sends to a Telnet session why it is ended from outside, if the session's lock becomes free within four seconds.
+    /// Otherwise the line would be inside a text that is being sent.
+    fn say_ending<R: Wait>(&self, rt: &R, connection: &C, ending: Ending);
+
+    /// Sends the text that was kept while the session rested. Returns whether the session continues.
+    fn send_kept<R: Wait + Clock>(&self, rt: &R, connection: &C) -> bool;
+
+    /// Tells a session that begins in a later volume the volume's number. Returns whether the session continues.
+    fn tell_volume<R: Wait + Clock>(
+        &self,
+        rt: &R,
+        alloc: Global,
+        connection: &C,
+        quay: &Quay,
+    ) -> bool;
+
+    /// Makes the session look for changes of others, under its lock, as far as they are synced, and sends its output.
+    /// Returns whether the session continues. The number of synced entries is read first, so that under the lock the
+    /// thread waits only for the other side. The hall's lock is not taken, however many changes there are.
+    fn look<R: Wait + Clock>(&self, rt: &R, connection: &C) -> bool;
+
+    /// Returns the player of the session and the player's first name, if there is one.
+    fn who<R: Wait>(&self, rt: &R, connection: &C) -> Option<(u32, String)>;
+}
+
+/// Returns the reason why a session should end from outside, if it should: all sessions end, or the host ends this one.
+pub(crate) fn ending_of<S: Shares>(state: &S, socket: &Socket) -> Option<Ending> {
+    match state.ending() {
+        Some(ending) => Some(ending),
+        None => socket.dismissal(),
+    }
+}
+
+/// Returns whether a notice thread has to stop: the session ends or should end, or the server turns.
+pub(crate) fn is_ending<S: Converses<C>, C>(state: &S, connection: &C) -> bool {
+    ending_of(state, state.socket(connection)).is_some()
+        || state.shared().is_turning()
+        || state.is_hanging_up(connection)
+}
+
+/// Ends a session: stores its desk for the next one, and frees its place. The socket is shut first, which ends a write
+/// of the other thread under the lock.
+pub(crate) fn leave<S: Converses<C>, C, R: Wait>(rt: &R, state: &S, connection: &C, at: usize) {
+    state.socket(connection).shut();
+    state.give_back(rt, connection, at);
+}
+
+/// Sends why a session is ended from outside. With Telnet the socket is then shut; on the web the other side closes the
+/// web socket.
+pub(crate) fn tell_ending<S: Converses<C>, C, R: Wait>(
+    rt: &R,
+    state: &S,
+    connection: &C,
+    ending: Ending,
+) {
+    let socket = state.socket(connection);
+    match socket.entrance() {
+        Entrance::Telnet => {
+            state.say_ending(rt, connection, ending);
+            socket.shut();
+        }
+        Entrance::Web => {
+            state.part(rt, connection, Parting::of_ending(ending));
+        }
+    }
+}
+
+/// A connection: its socket, and its client during the session.
 #[derive(Drop)]
-pub(crate) struct Connection<J: HallName> {
+pub struct Connection<J: HallName> {
     socket: Arc<Socket>,
     client: Mutex<Option<Client<J>>>,
     // True once the reader thread ends the session and owns the socket.
@@ -34,8 +195,8 @@ pub(crate) const CLOSE_TRIES: u32 = 80;
 pub(crate) const CLOSE_MILLISECONDS: u64 = 50;
 
 // Returns the number of synced entries, as far as sessions count.
-pub(crate) fn synced_entries<J: HallName, G: Commits<J>>(state: &StateOf<J, G>) -> u32 {
-    u32::try_from(state.gate.synced_count()).unwrap_or(u32::MAX)
+fn synced_entries<J: HallName, G: Commits<J>>(gate: &G) -> u32 {
+    u32::try_from(gate.synced_count()).unwrap_or(u32::MAX)
 }
 
 // Returns the reason of a session whose client has this end.
@@ -48,167 +209,43 @@ fn parting_of(end: End) -> Parting {
 }
 
 impl<J: HallName> Connection<J> {
-    /// Returns a connection whose session has not begun. It does not get the first `told` announcements.
-    pub(crate) fn new(socket: Arc<Socket>, told: u64) -> Connection<J> {
-        Connection {
-            socket,
-            client: Mutex::new(None),
-            hangs_up: AtomicBool::new(false),
-            told: AtomicU64::new(told),
-        }
-    }
-
-    /// Returns its socket.
-    pub(crate) fn socket(&self) -> &Socket {
-        &self.socket
-    }
-
-    /// Returns its client, under the lock.
-    pub(crate) fn client(&self) -> &Mutex<Option<Client<J>>> {
-        &self.client
-    }
-
-    /// Records that the reader thread ends the session.
-    pub(crate) fn hang_up(&self) {
-        self.hangs_up.store(true, Ordering::SeqCst);
-    }
-
-    /// Returns whether the reader thread ends the session.
-    pub(crate) fn is_hanging_up(&self) -> bool {
-        self.hangs_up.load(Ordering::SeqCst)
-    }
-
-    /// Returns the reason why the session should end from outside, if it should: all sessions end, or the host ends
-    /// this one.
-    pub(crate) fn ending<G: Commits<J>>(&self, state: &StateOf<J, G>) -> Option<Ending> {
-        match state.ending() {
-            Some(ending) => Some(ending),
-            None => self.socket.dismissal(),
-        }
-    }
-
-    /// Sends a browser the answer to its head. Returns whether it took the answer.
-    pub(crate) fn let_in<R: Wait + Clock>(&self, rt: &R, answer: &[u8]) -> bool {
-        self.socket.send(rt, answer).is_ok()
-    }
-
-    /// Returns whether the notice thread has to stop: the session ends or should end, or the server turns.
-    pub(crate) fn is_ending<G: Commits<J>>(&self, state: &StateOf<J, G>) -> bool {
-        self.ending(state).is_some() || state.is_turning() || self.is_hanging_up()
-    }
-
-    /// Begins the session at a place. Returns the number of its desk, or `None` if an allocation fails or no desk is
-    /// left.
-    pub(crate) fn start<G: Commits<J>, R: Wait>(
+    // Feeds bytes to the session, under its lock (`Conversation::feed`).
+    fn step<G: Commits<J>, R: Threads + Wait + Sync, K: Wait + Clock, F: Follows>(
         &self,
         rt: &R,
-        alloc: Global,
+        clock: &K,
         state: &StateOf<J, G>,
-        at: usize,
-    ) -> Option<u32> {
-        let framing = match self.socket.entrance() {
-            Entrance::Telnet => Framing::telnet(),
-            Entrance::Web => Framing::web(alloc).ok()?,
+        client: &mut Option<Client<J>>,
+        bytes: &[u8],
+        follows: &mut F,
+    ) -> Option<(Stepped, bool)> {
+        if let Some(ending) = ending_of(state, &self.socket) {
+            self.end(clock, client, ending);
+            return None;
+        }
+        if !self.tell_news(clock, &state.shared, client) {
+            return None;
+        }
+        let before = client.take()?;
+        let begun = now(clock);
+        let (workers, most) = (
+            state.shared.limits.workers,
+            synced_entries::<J, G>(&state.gate),
+        );
+        let (after, outgoing) = before.feed(rt, &state.hall, workers, most, bytes);
+        let ended = now(clock);
+        *client = Some(after);
+        let stepped = Stepped {
+            has_line: outgoing.has_line,
+            has_more: outgoing.has_more,
+            has_player: outgoing.has_player,
+            is_silent: outgoing.text.is_empty(),
+            accepted: outgoing.accepted,
+            begun,
+            ended,
         };
-        let desk = state.take_desk(rt, at).ok()?;
-        let number = desk.number();
-        match Client::new(alloc, framing, desk) {
-            Ok(client) => {
-                *self.client.lock(rt) = Some(client);
-                Some(number)
-            }
-            Err(desk) => {
-                state.keep_desk(rt, at, desk);
-                None
-            }
-        }
-    }
-
-    /// Makes the session look for all changes of its volume, in which no session changes anything any more. Returns
-    /// whether the session continues.
-    pub(crate) fn look_at_all<G: Commits<J>, R: Wait + Clock>(
-        &self,
-        rt: &R,
-        state: &StateOf<J, G>,
-    ) -> bool {
-        let all = state.control.tally.changes() as usize;
-        if state.commit(rt, all).is_some() {
-            return self.look(rt, state);
-        }
-        let mut guard = self.client.lock(rt);
-        self.end(rt, &mut guard, Ending::JournalFault);
-        false
-    }
-
-    /// Returns the parts that outlive the volume: the socket, the client without the desk, and the number of
-    /// announcements that the session was told. The desk is stored. Returns `None` if the session has ended; one whose
-    /// output waits ends.
-    pub(crate) fn rest<G: Commits<J>, R: Wait>(
-        &self,
-        rt: &R,
-        state: &StateOf<J, G>,
-        at: usize,
-    ) -> Option<(Arc<Socket>, RestingClient, u64)> {
-        let socket = Arc::try_clone(&self.socket).ok()?;
-        let client = self.client.lock(rt).take()?;
-        match client.rest() {
-            Ok((resting, desk)) => {
-                state.keep_desk(rt, at, desk);
-                Some((socket, resting, self.told.load(Ordering::SeqCst)))
-            }
-            Err(client) => {
-                state.keep_desk(rt, at, client.into_desk());
-                None
-            }
-        }
-    }
-
-    /// Continues a session that rested, at a new desk. Returns the number of the desk, or `None` if an allocation fails
-    /// or no desk is left. A session that comes from an earlier volume is told the number of this one. If its player
-    /// can't sit down, it is a guest's, and is told so.
-    pub(crate) fn go_on<G: Commits<J>, R: Wait>(
-        &self,
-        rt: &R,
-        alloc: Global,
-        state: &StateOf<J, G>,
-        at: usize,
-        resting: RestingClient,
-        quay: &Quay,
-    ) -> Option<u32> {
-        let line = quay.line(alloc).ok()?;
-        let desk = state.take_desk(rt, at).ok()?;
-        let number = desk.number();
-        let (mut client, sits) = Client::again(resting, rt, &state.hall, desk);
-        if quay.is_next() {
-            self.socket.keep(rt, &client.announce(line.as_str()));
-        }
-        if !sits {
-            self.socket
-                .keep(rt, &client.announce("(you are a guest)\r\n"));
-        }
-        *self.client.lock(rt) = Some(client);
-        Some(number)
-    }
-
-    /// Ends the session: stores its desk for the next one, and frees its place. The socket is shut first, which ends a
-    /// write of the other thread under the lock.
-    pub(crate) fn leave<G: Commits<J>, R: Wait>(&self, rt: &R, state: &StateOf<J, G>, at: usize) {
-        self.socket.shut();
-        self.give_back(rt, state, at);
-    }
-
-    /// Returns the desk to its place and leaves the socket open, for a web socket that was closed already.
-    pub(crate) fn give_back<G: Commits<J>, R: Wait>(
-        &self,
-        rt: &R,
-        state: &StateOf<J, G>,
-        at: usize,
-    ) {
-        let client = self.client.lock(rt).take();
-        if let Some(client) = client {
-            state.keep_desk(rt, at, client.into_desk());
-        }
-        state.release_place(rt, at);
+        follows.follow(stepped);
+        Some((stepped, self.send(clock, state, client, outgoing)))
     }
 
     // Sends a text after the versions that it can name are synced; an empty text names none. The client uses the memory
@@ -234,10 +271,10 @@ impl<J: HallName> Connection<J> {
         Ok(())
     }
 
-    /// Sends the output of a step, under the session's lock, after the versions that it can name are synced. Returns
-    /// whether the session continues. If frames have ended it, that is the first reason, whether or not the other side
-    /// takes the close.
-    pub(crate) fn send<G: Commits<J>, R: Wait + Clock>(
+    // Sends the output of a step, under the session's lock, after the versions that it can name are synced. Returns
+    // whether the session continues. If frames have ended it, that is the first reason, whether or not the other side
+    // takes the close.
+    fn send<G: Commits<J>, R: Wait + Clock>(
         &self,
         rt: &R,
         state: &StateOf<J, G>,
@@ -265,8 +302,8 @@ impl<J: HallName> Connection<J> {
         }
     }
 
-    /// Sends why the session is ended from outside, under the session's lock.
-    pub(crate) fn end<R: Wait>(&self, rt: &R, client: &mut Option<Client<J>>, ending: Ending) {
+    // Sends why the session is ended from outside, under the session's lock.
+    fn end<R: Wait>(&self, rt: &R, client: &mut Option<Client<J>>, ending: Ending) {
         match self.socket.entrance() {
             Entrance::Telnet => self.socket.tell_ending(rt, ending),
             Entrance::Web => self.close(rt, client, Parting::of_ending(ending)),
@@ -284,64 +321,20 @@ impl<J: HallName> Connection<J> {
         self.socket.end_writing();
     }
 
-    /// Ends the session for this reason, unless it has ended for another. It closes a web socket if the session's lock
-    /// becomes free within four seconds; a thread that holds it longer waits for the other side. Returns whether it was
-    /// closed.
-    pub(crate) fn part<R: Wait>(&self, rt: &R, parting: Parting) -> bool {
-        self.socket.part(rt, parting);
-        if self.socket.entrance() == Entrance::Telnet {
-            return false;
-        }
-        for _ in 0..CLOSE_TRIES {
-            if let Some(mut guard) = self.client.try_lock() {
-                self.close(rt, &mut guard, parting);
-                return true;
-            }
-            rest(rt, Duration::from_millis(CLOSE_MILLISECONDS));
-        }
-        false
-    }
-
-    /// Sends why the session is ended from outside. With Telnet the socket is then shut; the other side of a web socket
-    /// closes it.
-    pub(crate) fn tell_ending<R: Wait>(&self, rt: &R, ending: Ending) {
-        match self.socket.entrance() {
-            Entrance::Telnet => {
-                self.say_ending(rt, ending);
-                self.socket.shut();
-            }
-            Entrance::Web => {
-                self.part(rt, Parting::of_ending(ending));
-            }
-        }
-    }
-
-    // Sends to a Telnet session why it is ended from outside, if the session's lock becomes free within four seconds.
-    // Otherwise the line would be inside a text that is being sent.
-    fn say_ending<R: Wait>(&self, rt: &R, ending: Ending) {
-        for _ in 0..CLOSE_TRIES {
-            if let Some(_guard) = self.client.try_lock() {
-                self.socket.tell_ending(rt, ending);
-                return;
-            }
-            rest(rt, Duration::from_millis(CLOSE_MILLISECONDS));
-        }
-    }
-
-    /// Sends the host's announcements that the session did not get yet, under the session's lock, each once and between
-    /// two texts. Returns whether the session continues.
-    pub(crate) fn tell_news<R: Wait + Clock>(
+    // Sends the host's announcements that the session did not get yet, under the session's lock, each once and between
+    // two texts. Returns whether the session continues.
+    fn tell_news<R: Wait + Clock>(
         &self,
         rt: &R,
-        control: &Control,
+        shared: &Shared,
         client: &mut Option<Client<J>>,
     ) -> bool {
         for _ in rt.forever() {
             let told = self.told.load(Ordering::SeqCst);
-            if control.news.count() <= told {
+            if shared.control.news.count() <= told {
                 return true;
             }
-            let Some((line, count)) = control.news.after(rt, told) else {
+            let Some((line, count)) = shared.control.news.after(rt, told) else {
                 return true;
             };
             self.told.store(count, Ordering::SeqCst);
@@ -374,56 +367,201 @@ impl<J: HallName> Connection<J> {
             }
         }
     }
+}
 
-    /// Sends the text that was kept while the session rested. Returns whether the session continues.
-    pub(crate) fn send_kept<R: Wait + Clock>(&self, rt: &R) -> bool {
-        let _guard = self.client.lock(rt);
-        match self.socket.send(rt, &[]) {
+impl<J: HallName, G: Commits<J>> Converses<Connection<J>> for StateOf<J, G> {
+    fn connection(&self, socket: Arc<Socket>, told: u64) -> Connection<J> {
+        Connection {
+            socket,
+            client: Mutex::new(None),
+            hangs_up: AtomicBool::new(false),
+            told: AtomicU64::new(told),
+        }
+    }
+
+    fn socket<'a>(&self, connection: &'a Connection<J>) -> &'a Socket {
+        &connection.socket
+    }
+
+    fn hang_up(&self, connection: &Connection<J>) {
+        connection.hangs_up.store(true, Ordering::SeqCst);
+    }
+
+    fn is_hanging_up(&self, connection: &Connection<J>) -> bool {
+        connection.hangs_up.load(Ordering::SeqCst)
+    }
+
+    fn start<R: Wait>(
+        &self,
+        rt: &R,
+        alloc: Global,
+        connection: &Connection<J>,
+        at: usize,
+    ) -> Option<u32> {
+        let framing = match connection.socket.entrance() {
+            Entrance::Telnet => Framing::telnet(),
+            Entrance::Web => Framing::web(alloc).ok()?,
+        };
+        let desk = self.take_desk(rt, at).ok()?;
+        let number = desk.number();
+        match Client::new(alloc, framing, desk) {
+            Ok(client) => {
+                *connection.client.lock(rt) = Some(client);
+                Some(number)
+            }
+            Err(desk) => {
+                self.keep_desk(rt, at, desk);
+                None
+            }
+        }
+    }
+
+    fn look_at_all<R: Wait + Clock>(&self, rt: &R, connection: &Connection<J>) -> bool {
+        let all = self.shared.control.tally.changes() as usize;
+        if self.commit(rt, all).is_some() {
+            return self.look(rt, connection);
+        }
+        let mut guard = connection.client.lock(rt);
+        connection.end(rt, &mut guard, Ending::JournalFault);
+        false
+    }
+
+    fn rest<R: Wait>(
+        &self,
+        rt: &R,
+        connection: &Connection<J>,
+        at: usize,
+    ) -> Option<(Arc<Socket>, RestingClient, u64)> {
+        let socket = Arc::try_clone(&connection.socket).ok()?;
+        let client = connection.client.lock(rt).take()?;
+        match client.rest() {
+            Ok((resting, desk)) => {
+                self.keep_desk(rt, at, desk);
+                Some((socket, resting, connection.told.load(Ordering::SeqCst)))
+            }
+            Err(client) => {
+                self.keep_desk(rt, at, client.into_desk());
+                None
+            }
+        }
+    }
+
+    fn go_on<R: Wait>(
+        &self,
+        rt: &R,
+        alloc: Global,
+        connection: &Connection<J>,
+        at: usize,
+        resting: RestingClient,
+        quay: &Quay,
+    ) -> Option<u32> {
+        let line = quay.line(alloc).ok()?;
+        let desk = self.take_desk(rt, at).ok()?;
+        let number = desk.number();
+        let (mut client, sits) = Client::again(resting, rt, &self.hall, desk);
+        if quay.is_next() {
+            connection.socket.keep(rt, &client.announce(line.as_str()));
+        }
+        if !sits {
+            connection
+                .socket
+                .keep(rt, &client.announce("(you are a guest)\r\n"));
+        }
+        *connection.client.lock(rt) = Some(client);
+        Some(number)
+    }
+
+    fn give_back<R: Wait>(&self, rt: &R, connection: &Connection<J>, at: usize) {
+        let client = connection.client.lock(rt).take();
+        if let Some(client) = client {
+            self.keep_desk(rt, at, client.into_desk());
+        }
+        self.release_place(rt, at);
+    }
+
+    fn feed<R: Threads + Wait + Sync, K: Wait + Clock, F: Follows>(
+        &self,
+        rt: &R,
+        clock: &K,
+        connection: &Connection<J>,
+        bytes: &[u8],
+        follows: &mut F,
+    ) -> Option<(Stepped, bool)> {
+        let mut guard = connection.client.lock(rt);
+        connection.step(rt, clock, self, &mut guard, bytes, follows)
+    }
+
+    fn part<R: Wait>(&self, rt: &R, connection: &Connection<J>, parting: Parting) -> bool {
+        connection.socket.part(rt, parting);
+        if connection.socket.entrance() == Entrance::Telnet {
+            return false;
+        }
+        for _ in 0..CLOSE_TRIES {
+            if let Some(mut guard) = connection.client.try_lock() {
+                connection.close(rt, &mut guard, parting);
+                return true;
+            }
+            rest(rt, Duration::from_millis(CLOSE_MILLISECONDS));
+        }
+        false
+    }
+
+    fn say_ending<R: Wait>(&self, rt: &R, connection: &Connection<J>, ending: Ending) {
+        for _ in 0..CLOSE_TRIES {
+            if let Some(_guard) = connection.client.try_lock() {
+                connection.socket.tell_ending(rt, ending);
+                return;
+            }
+            rest(rt, Duration::from_millis(CLOSE_MILLISECONDS));
+        }
+    }
+
+    fn send_kept<R: Wait + Clock>(&self, rt: &R, connection: &Connection<J>) -> bool {
+        let _guard = connection.client.lock(rt);
+        match connection.socket.send(rt, &[]) {
             Ok(()) => true,
             Err(parting) => {
-                self.socket.part(rt, parting);
+                connection.socket.part(rt, parting);
                 false
             }
         }
     }
 
-    /// Tells a session that begins in a later volume the volume's number. Returns whether the session continues.
-    pub(crate) fn tell_volume<R: Wait + Clock>(&self, rt: &R, alloc: Global, quay: &Quay) -> bool {
+    fn tell_volume<R: Wait + Clock>(
+        &self,
+        rt: &R,
+        alloc: Global,
+        connection: &Connection<J>,
+        quay: &Quay,
+    ) -> bool {
         if quay.volume < 2 {
             return true;
         }
-        let mut guard = self.client.lock(rt);
+        let mut guard = connection.client.lock(rt);
         match quay.line(alloc) {
-            Ok(line) => self.send_line(rt, &mut guard, line.as_str()),
+            Ok(line) => connection.send_line(rt, &mut guard, line.as_str()),
             Err(_) => {
-                self.socket.part(rt, Parting::OutOfMemory);
+                connection.socket.part(rt, Parting::OutOfMemory);
                 false
             }
         }
     }
 
-    /// Makes the session look for changes of others, under its lock, as far as they are synced, and sends its output.
-    /// Returns whether the session continues. The number of synced entries is read first, so that under the lock the
-    /// thread waits only for the other side. The hall's lock is not taken, however many changes there are.
-    pub(crate) fn look<G: Commits<J>, R: Wait + Clock>(
-        &self,
-        rt: &R,
-        state: &StateOf<J, G>,
-    ) -> bool {
-        let most = synced_entries(state);
-        let mut guard = self.client.lock(rt);
+    fn look<R: Wait + Clock>(&self, rt: &R, connection: &Connection<J>) -> bool {
+        let most = synced_entries::<J, G>(&self.gate);
+        let mut guard = connection.client.lock(rt);
         let Some(before) = guard.take() else {
             return false;
         };
-        let (after, outgoing) = before.nudge(&state.hall, state.limits.workers, most);
+        let (after, outgoing) = before.nudge(&self.hall, self.shared.limits.workers, most);
         *guard = Some(after);
-        self.send(rt, state, &mut guard, outgoing) && self.tell_news(rt, &state.control, &mut guard)
+        connection.send(rt, self, &mut guard, outgoing)
+            && connection.tell_news(rt, &self.shared, &mut guard)
     }
 
-    /// Returns the player of the session and the player's first name, if there is one.
-    pub(crate) fn who<R: Wait>(&self, rt: &R, hall: &Hall<J>) -> Option<(u32, String)> {
-        let mut guard = self.client.lock(rt);
-        let answer = guard.as_mut()?.look_at_me(hall)?;
+    fn who<R: Wait>(&self, rt: &R, connection: &Connection<J>) -> Option<(u32, String)> {
+        let mut guard = connection.client.lock(rt);
+        let answer = guard.as_mut()?.look_at_me(&self.hall)?;
         player_in(*answer.text.allocator(), answer.text.as_str())
     }
 }

@@ -28,6 +28,6 @@ mod server;
 mod telnet;
 
 pub use closing::{Remaining, begin_rest, look_at_rest, shut_late};
-pub use connection::StateOf;
+pub use connection::{Connection, Converses, Follows, StateOf, Stepped};
 pub use quay::{Came, Guest, Quay};
 pub use server::{Seated, Server};

@@ -1,9 +1,9 @@
 //! Runs the notice thread of a session.
 
-use crate::connection::{CLOSE_MILLISECONDS, CLOSE_TRIES, Connection, StateOf};
+use crate::connection::{
+    CLOSE_MILLISECONDS, CLOSE_TRIES, Converses, ending_of, is_ending, tell_ending,
+};
 use crossbeam_utils::sync::Parker;
-use mud_hall::HallName;
-use mud_server_state::Commits;
 use mud_socket::{Ending, Parting, now, rest};
 use std::sync::Wait;
 use std::time::{Clock, Duration};
@@ -25,20 +25,21 @@ pub(crate) struct Sleeper {
 // Waits while the player is typing, or until the session should end. The replies carry the changes of others meanwhile,
 // which saves texts. The first wait is the remainder of the typing time. Each further one is twice as long, because the
 // next change wakes this thread once the player is not typing any more.
-fn leave_to_replies<J: HallName, G: Commits<J>, R: Wait + Clock>(
+fn leave_to_replies<S: Converses<C>, C, R: Wait + Clock>(
     rt: &R,
-    state: &StateOf<J, G>,
-    connection: &Connection<J>,
+    state: &S,
+    connection: &C,
     sleeper: &Sleeper,
 ) {
-    let (roster, at, visit) = (&state.control.roster, sleeper.at, sleeper.visit);
+    let (roster, at, visit) = (&state.shared().control.roster, sleeper.at, sleeper.visit);
     let longest = Duration::from_millis(LONGEST_MILLISECONDS);
     let mut wait = Duration::ZERO;
     for _ in rt.forever() {
         let left = state
+            .shared()
             .typing_time()
             .saturating_sub(roster.silence(at, now(rt)));
-        if left.is_zero() || connection.is_ending(state) {
+        if left.is_zero() || is_ending(state, connection) {
             break;
         }
         roster.leave_to_replies(at, visit, true);
@@ -49,14 +50,14 @@ fn leave_to_replies<J: HallName, G: Commits<J>, R: Wait + Clock>(
 }
 
 // Gives the other side of a web socket four seconds to close it, after the host ended the session.
-fn see_off<J: HallName, R: Wait>(rt: &R, connection: &Connection<J>) {
+fn see_off<S: Converses<C>, C, R: Wait>(rt: &R, state: &S, connection: &C) {
     for _ in 0..CLOSE_TRIES {
-        if connection.is_hanging_up() {
+        if state.is_hanging_up(connection) {
             return;
         }
         rest(rt, Duration::from_millis(CLOSE_MILLISECONDS));
     }
-    connection.socket().shut();
+    state.socket(connection).shut();
 }
 
 /// Runs the notice thread of a session: each time it is woken, the session looks for changes of others, and gets the
@@ -65,37 +66,37 @@ fn see_off<J: HallName, R: Wait>(rt: &R, connection: &Connection<J>) {
 /// It checks whether the session should end before the first sleep too, because the wake-up for that may have come
 /// already. While it rests, a wake-up is kept and costs the waking thread no system call. So in a busy world several
 /// changes are sent together.
-pub(crate) fn tell_all<J: HallName, G: Commits<J>, R: Wait + Clock>(
+pub(crate) fn tell_all<S: Converses<C>, C, R: Wait + Clock>(
     rt: &R,
-    state: &StateOf<J, G>,
-    connection: &Connection<J>,
+    state: &S,
+    connection: &C,
     sleeper: &Sleeper,
 ) {
     for _ in rt.forever() {
-        if connection.ending(state).is_none() && !state.is_turning() {
+        if ending_of(state, state.socket(connection)).is_none() && !state.shared().is_turning() {
             sleeper.parker.park(rt);
         }
         leave_to_replies(rt, state, connection, sleeper);
-        if state.is_turning() {
+        if state.shared().is_turning() {
             return;
         }
-        if let Some(ending) = connection.ending(state) {
-            connection.tell_ending(rt, ending);
+        if let Some(ending) = ending_of(state, state.socket(connection)) {
+            tell_ending(rt, state, connection, ending);
             if let Ending::ByHost = ending {
-                see_off(rt, connection);
+                see_off(rt, state, connection);
             }
             return;
         }
-        if !connection.look(rt, state) {
-            if state.is_turning() {
+        if !state.look(rt, connection) {
+            if state.shared().is_turning() {
                 return;
             }
-            connection.part(rt, Parting::Left);
+            state.part(rt, connection, Parting::Left);
             break;
         }
-        rest(rt, state.notice_rest());
+        rest(rt, state.shared().notice_rest());
     }
-    if !connection.is_hanging_up() {
-        connection.socket().shut();
+    if !state.is_hanging_up(connection) {
+        state.socket(connection).shut();
     }
 }

@@ -1,15 +1,12 @@
 //! Runs the reader thread of a session.
 
-use crate::connection::{Connection, StateOf, synced_entries};
+use crate::connection::{Converses, Follows, Stepped, ending_of, leave};
 use crate::habits::Habits;
 use crate::log_lines::{log_begin, log_end, log_end_of, log_player, log_refusal, log_wait};
 use crate::quay::{Guest, Quay};
 use crate::server::Server;
 use log::Log;
-use mud_client::{Client, Outgoing};
 use mud_control::{Pace, Refusal};
-use mud_hall::HallName;
-use mud_server_state::Commits;
 use mud_socket::{Entrance, Parting, Patience, give_way, now, rest, unix_seconds};
 use mud_web::{FirstLine, Verdict};
 use std::alloc::Global;
@@ -35,10 +32,10 @@ const SILENT_SECONDS: u32 = 1;
 // The state of a reader thread: the connection, the place of its session, the number of its desk, and what it knows of
 // the session.
 #[derive(Drop)]
-struct Reading<'a, J: HallName, G, R> {
+struct Reading<'a, S, C, R> {
     rt: &'a R,
-    state: &'a StateOf<J, G>,
-    connection: &'a Connection<J>,
+    state: &'a S,
+    connection: &'a C,
     at: usize,
     number: u32,
     habits: Habits,
@@ -52,33 +49,26 @@ enum Stopped {
     Rests,
 }
 
-// The result of bytes for a session: true if it answered a line, if lines wait, and if it continues.
-#[derive(Clone, Copy)]
-struct Fed {
-    has_line: bool,
-    has_more: bool,
-    goes_on: bool,
-}
-
-impl<'a, J: HallName, G: Commits<J>, R: Threads + Wait + Log + Clock + Sync> Reading<'a, J, G, R> {
+impl<'a, S: Converses<C>, C, R: Threads + Wait + Log + Clock + Sync> Reading<'a, S, C, R> {
     // Returns the state for the session at the place, whose time limit for a player begins now.
     fn new(
         rt: &'a R,
         alloc: Global,
-        state: &'a StateOf<J, G>,
-        connection: &'a Connection<J>,
+        state: &'a S,
+        connection: &'a C,
         at: usize,
         number: u32,
-    ) -> Reading<'a, J, G, R> {
-        let (socket, start) = (connection.socket(), now(rt));
-        let (peer, control) = (socket.peer(), &state.control);
+    ) -> Reading<'a, S, C, R> {
+        let (socket, start) = (state.socket(connection), now(rt));
+        let (peer, limits) = (socket.peer(), &state.shared().limits);
+        let control = &state.shared().control;
         let shared = control.crowd.begin(rt, peer.ip(), start);
         let habits = Habits {
             peer,
             since: start,
             since_seconds: unix_seconds(rt),
             moment: Patience::new(0, SILENT_SECONDS, start),
-            patience: Patience::new(state.limits.idle, state.limits.unnamed, start),
+            patience: Patience::new(limits.idle, limits.unnamed, start),
             first_line: FirstLine::new(),
             has_begun: socket.entrance() == Entrance::Web,
             is_named: false,
@@ -104,8 +94,8 @@ impl<'a, J: HallName, G: Commits<J>, R: Threads + Wait + Log + Clock + Sync> Rea
     fn name(&mut self) {
         if !self.habits.is_named {
             self.habits.is_named = true;
-            self.state.control.tally.count_session();
-            let by = self.connection.socket().entrance().word();
+            self.state.shared().control.tally.count_session();
+            let by = self.state.socket(self.connection).entrance().word();
             log_begin(self.rt, self.number, self.habits.peer, by);
         }
     }
@@ -114,7 +104,8 @@ impl<'a, J: HallName, G: Commits<J>, R: Threads + Wait + Log + Clock + Sync> Rea
     fn begin(&mut self) {
         if !self.habits.has_begun {
             self.habits.has_begun = true;
-            self.state.lobby.settle_ticket(&self.state.limits, true);
+            let shared = self.state.shared();
+            shared.lobby.settle_ticket(&shared.limits, true);
         }
         self.name();
     }
@@ -140,12 +131,12 @@ impl<'a, J: HallName, G: Commits<J>, R: Threads + Wait + Log + Clock + Sync> Rea
     fn hear(&mut self) {
         let now = now(self.rt);
         self.habits.patience.hear(now);
-        self.state.control.roster.hear(self.at, now);
+        self.state.shared().control.roster.hear(self.at, now);
     }
 
     // Counts a wait. The log names it, unless the session waited less than a minute ago.
     fn note_wait(&mut self, now: Duration) {
-        self.state.control.tally.count_wait();
+        self.state.shared().control.tally.count_wait();
         let is_new = match self.habits.last_wait {
             Some(last) => now.saturating_sub(last) > Duration::from_secs(EPISODE_SECONDS),
             None => true,
@@ -165,14 +156,14 @@ impl<'a, J: HallName, G: Commits<J>, R: Threads + Wait + Log + Clock + Sync> Rea
             let Some(wait) = self
                 .habits
                 .pace
-                .take_line(rt, &state.control.excess, moment)
+                .take_line(rt, &state.shared().control.excess, moment)
             else {
                 return true;
             };
-            if self.connection.ending(state).is_some() {
+            if ending_of(state, state.socket(self.connection)).is_some() {
                 return true;
             }
-            if state.is_turning() {
+            if state.shared().is_turning() {
                 return false;
             }
             if round == 0 {
@@ -188,10 +179,12 @@ impl<'a, J: HallName, G: Commits<J>, R: Threads + Wait + Log + Clock + Sync> Rea
     fn wait_for_turn(&self) -> bool {
         let (rt, state) = (self.rt, self.state);
         for _ in rt.forever() {
-            if !state.is_held() || self.connection.ending(state).is_some() {
+            if !state.shared().is_held()
+                || ending_of(state, state.socket(self.connection)).is_some()
+            {
                 return true;
             }
-            if state.is_turning() {
+            if state.shared().is_turning() {
                 return false;
             }
             rest(rt, Duration::from_millis(REST_MILLISECONDS));
@@ -202,25 +195,12 @@ impl<'a, J: HallName, G: Commits<J>, R: Threads + Wait + Log + Clock + Sync> Rea
     // Puts input off to the next volume. The session can rest then, as if a line waited.
     fn put_off(&mut self, bytes: &[u8]) -> Option<bool> {
         if self.habits.unread.extend_from_slice(bytes).is_err() {
-            self.connection.socket().part(self.rt, Parting::OutOfMemory);
+            self.state
+                .socket(self.connection)
+                .part(self.rt, Parting::OutOfMemory);
             return None;
         }
         Some(true)
-    }
-
-    // Counts an answered line for the rate limits and for the host. A line end without an answer, such as the second
-    // one of CR LF, keeps its token for the next line.
-    fn spend(&mut self, now: Duration, took: Duration, outgoing: &Outgoing<J>) {
-        let (rt, control) = (self.rt, &self.state.control);
-        if outgoing.has_line && outgoing.text.is_empty() {
-            self.habits.pace.give_back();
-        } else if outgoing.has_line {
-            control.tally.count_line();
-        }
-        let has_changed = outgoing.accepted.is_some();
-        self.habits
-            .pace
-            .spend(rt, &control.excess, now, took, has_changed);
     }
 
     // Names the session's player in the log and for the host, once there is one.
@@ -229,38 +209,18 @@ impl<'a, J: HallName, G: Commits<J>, R: Threads + Wait + Log + Clock + Sync> Rea
             return;
         }
         let (rt, state) = (self.rt, self.state);
-        let Some((player, name)) = self.connection.who(rt, &state.hall) else {
+        let Some((player, name)) = state.who(rt, self.connection) else {
             return;
         };
         log_player(rt, self.number, player, name.as_str());
         if let Ok(copy) = name.clone() {
-            state.control.roster.name(rt, self.at, player, copy);
+            state
+                .shared()
+                .control
+                .roster
+                .name(rt, self.at, player, copy);
         }
         self.habits.player = Some((player, name));
-    }
-
-    // Announces a change of the session to the others: there are at least that many entries. With its first change it
-    // counts as a player's.
-    fn tell_change(&mut self, outgoing: &Outgoing<J>, now: Duration) {
-        let Some(version) = outgoing.accepted else {
-            return;
-        };
-        self.state.announce_change(self.rt, self.at, version, now);
-        self.state.control.tally.count_change(version as u64);
-        self.state.warn_if_nearly_full(self.rt, version);
-        if !self.habits.is_counted {
-            self.habits.is_counted = true;
-            self.state.count_player();
-        }
-    }
-
-    // Finishes a step at the time `now`: announces its change, and ends the time limit for a player once there is one.
-    fn tell(&mut self, outgoing: &Outgoing<J>, now: Duration) {
-        self.tell_change(outgoing, now);
-        if outgoing.has_player {
-            self.habits.has_player = true;
-            self.habits.patience.name();
-        }
     }
 
     // Serves bytes, or puts them off. Returns whether lines wait, or `None` if the session does not continue.
@@ -268,58 +228,25 @@ impl<'a, J: HallName, G: Commits<J>, R: Threads + Wait + Log + Clock + Sync> Rea
         if !self.wait_for_turn() || !self.keep_pace() {
             return self.put_off(bytes);
         }
-        let connection = self.connection;
-        let mut guard = connection.client().lock(self.rt);
-        let fed = self.feed(&mut guard, bytes);
-        drop(guard);
-        let Fed {
-            has_line,
-            has_more,
-            goes_on,
-        } = fed?;
-        if has_line {
+        let (rt, state, connection) = (self.rt, self.state, self.connection);
+        let (stepped, goes_on) = state.feed(rt, rt, connection, bytes, self)?;
+        if stepped.has_line {
             self.hear();
         }
         self.learn_player();
-        if goes_on { Some(has_more) } else { None }
-    }
-
-    // Feeds bytes to the session, under its lock. It asks for the sync of an accepted change before it sends the
-    // output, because a send may wait for the other side. A question is answered by the synced entries, so it waits for
-    // no sync. Returns `None` if the session has ended.
-    //
-    // If the session should end, it sends that in place of an answer. It sends the host's announcements first, because
-    // a player who types without a pause leaves the notice thread no moment in which the lock is free.
-    fn feed(&mut self, client: &mut Option<Client<J>>, bytes: &[u8]) -> Option<Fed> {
-        let (rt, state, connection) = (self.rt, self.state, self.connection);
-        if let Some(ending) = connection.ending(state) {
-            connection.end(rt, client, ending);
-            return None;
+        if goes_on {
+            Some(stepped.has_more)
+        } else {
+            None
         }
-        if !connection.tell_news(rt, &state.control, client) {
-            return None;
-        }
-        let before = client.take()?;
-        let begun = now(rt);
-        let (workers, most) = (state.limits.workers, synced_entries(state));
-        let (after, outgoing) = before.feed(rt, &state.hall, workers, most, bytes);
-        let ended = now(rt);
-        *client = Some(after);
-        self.tell(&outgoing, ended);
-        self.spend(ended, ended.saturating_sub(begun), &outgoing);
-        let (has_line, has_more) = (outgoing.has_line, outgoing.has_more);
-        let goes_on = connection.send(rt, state, client, outgoing);
-        Some(Fed {
-            has_line,
-            has_more,
-            goes_on,
-        })
     }
 
     // Serves these bytes, unless they are a browser's request: then the session ends.
     fn take_in(&mut self, bytes: &[u8]) -> Option<bool> {
         if self.is_request(bytes) {
-            self.connection.socket().part(self.rt, Parting::Request);
+            self.state
+                .socket(self.connection)
+                .part(self.rt, Parting::Request);
             return None;
         }
         self.step(bytes)
@@ -330,8 +257,8 @@ impl<'a, J: HallName, G: Commits<J>, R: Threads + Wait + Log + Clock + Sync> Rea
         if self.habits.has_begun {
             self.name();
         }
-        let (rt, connection) = (self.rt, self.connection);
-        if !connection.look(rt, self.state) || !connection.tell_volume(rt, alloc, quay) {
+        let (rt, state, connection) = (self.rt, self.state, self.connection);
+        if !state.look(rt, connection) || !state.tell_volume(rt, alloc, connection, quay) {
             return Stopped::Parted(Parting::Left);
         }
         let waits = self.take_in(first);
@@ -341,7 +268,8 @@ impl<'a, J: HallName, G: Commits<J>, R: Threads + Wait + Log + Clock + Sync> Rea
     // Continues a session that rested: sends what was kept for it, and serves its input, beginning with the input and
     // the lines that wait. Returns the reason for the end.
     fn go_on(&mut self) -> Stopped {
-        if !self.connection.send_kept(self.rt) || !self.connection.look(self.rt, self.state) {
+        let (rt, state, connection) = (self.rt, self.state, self.connection);
+        if !state.send_kept(rt, connection) || !state.look(rt, connection) {
             return Stopped::Parted(Parting::Left);
         }
         let empty = Vec::new(*Vec::allocator(&self.habits.unread));
@@ -364,7 +292,7 @@ impl<'a, J: HallName, G: Commits<J>, R: Threads + Wait + Log + Clock + Sync> Rea
             let Some(has_more) = waits else {
                 return Stopped::Parted(Parting::Left);
             };
-            if self.state.is_turning() {
+            if self.state.shared().is_turning() {
                 self.habits.has_more = has_more;
                 return Stopped::Rests;
             }
@@ -372,10 +300,10 @@ impl<'a, J: HallName, G: Commits<J>, R: Threads + Wait + Log + Clock + Sync> Rea
                 waits = self.step(&[]);
                 continue;
             }
-            if self.state.gives_way() {
+            if self.state.shared().gives_way() {
                 give_way();
             }
-            let socket = self.connection.socket();
+            let socket = self.state.socket(self.connection);
             match socket.read(self.rt, self.patience(), &mut buffer) {
                 Ok(0) => {}
                 Ok(count) => waits = self.take_in(&buffer[..count]),
@@ -400,10 +328,8 @@ impl<'a, J: HallName, G: Commits<J>, R: Threads + Wait + Log + Clock + Sync> Rea
         if let Some((player, name)) = &self.habits.player
             && let Ok(copy) = name.clone()
         {
-            self.state
-                .control
-                .roster
-                .name(self.rt, self.at, *player, copy);
+            let roster = &self.state.shared().control.roster;
+            roster.name(self.rt, self.at, *player, copy);
         }
     }
 
@@ -424,14 +350,14 @@ impl<'a, J: HallName, G: Commits<J>, R: Threads + Wait + Log + Clock + Sync> Rea
     // Waits until all sessions rest, and tells the session what is left of the volume. Returns whether it continues.
     fn see_all(&self) -> bool {
         let (rt, state) = (self.rt, self.state);
-        state.count_resting();
+        state.shared().count_resting();
         for _ in rt.forever() {
-            if state.all_rest() {
+            if state.shared().all_rest() {
                 break;
             }
             rest(rt, Duration::from_millis(REST_MILLISECONDS));
         }
-        self.connection.look_at_all(rt, state)
+        state.look_at_all(rt, self.connection)
     }
 
     // Leaves the session on the quay, and returns its desk and its place.
@@ -444,8 +370,8 @@ impl<'a, J: HallName, G: Commits<J>, R: Threads + Wait + Log + Clock + Sync> Rea
             number,
             habits,
         } = self;
-        let Some((socket, client, told)) = connection.rest(rt, state, at) else {
-            connection.leave(rt, state, at);
+        let Some((socket, client, told)) = state.rest(rt, connection, at) else {
+            leave(rt, state, connection, at);
             return;
         };
         let guest = Guest {
@@ -462,18 +388,18 @@ impl<'a, J: HallName, G: Commits<J>, R: Threads + Wait + Log + Clock + Sync> Rea
     // Ends the session for this reason, unless it has ended for another, and releases its place. Then it drains a web
     // socket that was closed.
     fn hang_up(&mut self, parting: Parting) {
-        let (rt, connection) = (self.rt, self.connection);
-        connection.hang_up();
+        let (rt, state, connection) = (self.rt, self.state, self.connection);
+        state.hang_up(connection);
         if self.habits.pace.is_shared() {
-            self.state.control.crowd.end(rt, self.habits.peer.ip());
+            state.shared().control.crowd.end(rt, self.habits.peer.ip());
         }
-        if connection.part(rt, parting) {
-            connection.give_back(rt, self.state, self.at);
+        if state.part(rt, connection, parting) {
+            state.give_back(rt, connection, self.at);
             self.tell_end();
-            connection.socket().drain(rt);
-            connection.socket().shut();
+            state.socket(connection).drain(rt);
+            state.socket(connection).shut();
         } else {
-            connection.leave(rt, self.state, self.at);
+            leave(rt, state, connection, self.at);
             self.tell_end();
         }
     }
@@ -481,9 +407,10 @@ impl<'a, J: HallName, G: Commits<J>, R: Threads + Wait + Log + Clock + Sync> Rea
     // Logs the end of the session. A browser's request was no session: the log names one at most once a second.
     fn tell_end(&mut self) {
         let (rt, state) = (self.rt, self.state);
-        let parting = self.connection.socket().part(rt, Parting::Left);
+        let parting = self.state.socket(self.connection).part(rt, Parting::Left);
         if parting == Parting::Request {
-            state.lobby.settle_ticket(&state.limits, false);
+            let shared = state.shared();
+            shared.lobby.settle_ticket(&shared.limits, false);
         } else {
             self.begin();
         }
@@ -491,7 +418,7 @@ impl<'a, J: HallName, G: Commits<J>, R: Threads + Wait + Log + Clock + Sync> Rea
             self.log_end(parting);
         } else {
             let address = self.habits.peer.ip();
-            log_refusal(rt, &state.control.tally, address, Refusal::Request);
+            log_refusal(rt, &state.shared().control.tally, address, Refusal::Request);
         }
     }
 
@@ -505,11 +432,61 @@ impl<'a, J: HallName, G: Commits<J>, R: Threads + Wait + Log + Clock + Sync> Rea
     }
 }
 
+impl<'a, S: Converses<C>, C, R: Wait + Log + Clock> Reading<'a, S, C, R> {
+    // Counts an answered line for the rate limits and for the host. A line end without an answer, such as the second
+    // one of CR LF, keeps its token for the next line.
+    fn spend(&mut self, stepped: Stepped) {
+        let (rt, control) = (self.rt, &self.state.shared().control);
+        if stepped.has_line && stepped.is_silent {
+            self.habits.pace.give_back();
+        } else if stepped.has_line {
+            control.tally.count_line();
+        }
+        let (now, has_changed) = (stepped.ended, stepped.accepted.is_some());
+        let took = now.saturating_sub(stepped.begun);
+        self.habits
+            .pace
+            .spend(rt, &control.excess, now, took, has_changed);
+    }
+
+    // Announces a change of the session to the others. With its first change it counts as a player's.
+    fn tell_change(&mut self, stepped: Stepped) {
+        let Some(version) = stepped.accepted else {
+            return;
+        };
+        self.state
+            .announce_change(self.rt, self.at, version, stepped.ended);
+        let shared = self.state.shared();
+        shared.control.tally.count_change(version as u64);
+        shared.warn_if_nearly_full(self.rt, version);
+        if !self.habits.is_counted {
+            self.habits.is_counted = true;
+            shared.count_player();
+        }
+    }
+
+    // Ends the time limit for a player, once there is one.
+    fn learn(&mut self, stepped: Stepped) {
+        if stepped.has_player {
+            self.habits.has_player = true;
+            self.habits.patience.name();
+        }
+    }
+}
+
+impl<'a, S: Converses<C>, C, R: Wait + Log + Clock> Follows for Reading<'a, S, C, R> {
+    fn follow(&mut self, stepped: Stepped) {
+        self.tell_change(stepped);
+        self.learn(stepped);
+        self.spend(stepped);
+    }
+}
+
 /// Runs the reader thread of the session at a place, at the desk with this number. It sends the greeting, and serves
 /// the input, beginning with `first`. Then it ends the session, or leaves it on the quay.
-pub(crate) fn read_all<'s, E, J: HallName, G: Commits<J>, R: Threads + Wait + Log + Clock + Sync>(
-    server: &Server<'s, E, J, G, R>,
-    connection: &Connection<J>,
+pub(crate) fn read_all<'s, E, S: Converses<C>, C, R: Threads + Wait + Log + Clock + Sync>(
+    server: &Server<'s, E, S, C, R>,
+    connection: &C,
     at: usize,
     number: u32,
     first: &[u8],
@@ -527,9 +504,9 @@ pub(crate) fn read_all<'s, E, J: HallName, G: Commits<J>, R: Threads + Wait + Lo
 }
 
 /// Runs the reader thread of a session that rested, at its new place and desk.
-pub(crate) fn read_on<'s, E, J: HallName, G: Commits<J>, R: Threads + Wait + Log + Clock + Sync>(
-    server: &Server<'s, E, J, G, R>,
-    connection: &Connection<J>,
+pub(crate) fn read_on<'s, E, S: Converses<C>, C, R: Threads + Wait + Log + Clock + Sync>(
+    server: &Server<'s, E, S, C, R>,
+    connection: &C,
     at: usize,
     number: u32,
     habits: Habits,

@@ -1,9 +1,9 @@
 //! Telnet connections: each gets a session at once, or is refused.
 
+use crate::connection::{Converses, leave};
 use crate::server::{Begun, Server};
 use log::Log;
-use mud_hall::HallName;
-use mud_server_state::{Commits, NoPlace};
+use mud_server_state::NoPlace;
 use mud_socket::{Entrance, Socket, set_up};
 use std::io::Write;
 use std::net::{Shutdown, SocketAddr, TcpStream};
@@ -18,10 +18,10 @@ fn refuse(stream: TcpStream, no_place: NoPlace) {
     let _ = stream.shutdown(Shutdown::Both);
 }
 
-impl<'s, E, J, G, R> Server<'s, E, J, G, R>
+impl<'s, E, S, C, R> Server<'s, E, S, C, R>
 where
-    J: HallName + Send + Sync + 's,
-    G: Commits<J> + Sync + 's,
+    S: Converses<C> + Sync + 's,
+    C: Drop + Send + Sync + 's,
     R: Threads + Wait + Log + Clock + Sync + 's,
 {
     // Begins a Telnet session at the place. Returns whether it did.
@@ -47,7 +47,7 @@ where
         } = begun;
         let has_begun = self.begin_telling(tells, sleeper) && self.begin_reading(reads, at, number);
         if !has_begun {
-            kept.leave(rt, state, at);
+            leave(rt, state, &*kept, at);
         }
         has_begun
     }
@@ -61,7 +61,7 @@ where
         match self.admit(peer.ip()) {
             Ok(at) => {
                 if !self.begin(at, stream) {
-                    self.state.lobby.settle_ticket(&self.state.limits, false);
+                    self.settle(false);
                 }
             }
             Err(no_place) => refuse(stream, no_place),

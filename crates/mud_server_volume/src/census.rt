@@ -2,9 +2,7 @@
 
 use mud_chron::Entry;
 use mud_control::Tally;
-use mud_hall::{HallName, Reader};
-use mud_server_state::Commits;
-use mud_server_threads::StateOf;
+use mud_server_state::Reads;
 use mud_world::{Deed, Target};
 use std::alloc::Global;
 
@@ -38,12 +36,8 @@ pub fn count_objects(tally: &Tally, entries: &[Entry]) {
 }
 
 /// Counts the objects of entries that were not counted yet. If an allocation fails, some are not counted.
-pub(crate) fn count_new<J: HallName, G: Commits<J>>(
-    alloc: Global,
-    state: &StateOf<J, G>,
-    reader: &mut Reader<J>,
-) {
-    if let Ok(entries) = reader.read(alloc, &state.hall, MOST_READ) {
-        count_objects(&state.control.tally, &entries);
+pub(crate) fn count_new<S: Reads<K>, K>(alloc: Global, state: &S, reader: &mut K) {
+    if let Some(entries) = state.read(alloc, reader, MOST_READ) {
+        count_objects(&state.shared().control.tally, &entries);
     }
 }

@@ -14,20 +14,21 @@ use crate::turning::Turning;
 use log::Log;
 use mud_chron::Entry;
 use mud_control::{Hosting, StopSign};
-use mud_hall::{HallName, LoadFault, NewHall};
+use mud_hall::{HallName, LoadFault, NewHall, Reader};
 use mud_io::Sink;
 use mud_journal::Gate;
 use mud_listeners::{Arrival, Arrivals, Doors, Listeners, Ports};
 use mud_row::History;
 use mud_server_end::{ServerFault, settle, write_entries, write_ports};
-use mud_server_state::{Commits, Limits, Lobby, ServerState};
+use mud_server_state::{Commits, Limits, Lobby, Reads, ServerState, Shares};
 use mud_server_threads::{
-    Guest, Quay, Remaining, Seated, Server, StateOf, begin_rest, look_at_rest, shut_late,
+    Connection, Converses, Guest, Quay, Remaining, Seated, Server, StateOf, begin_rest,
+    look_at_rest, shut_late,
 };
 use mud_socket::now;
 use std::alloc::{AllocFailed, Global};
 use std::io::Write;
-use std::marker::Brand;
+use std::marker::{Brand, PhantomData};
 use std::sync::Wait;
 use std::thread;
 use std::thread::Threads;
@@ -85,24 +86,26 @@ pub(crate) struct Comers {
 // Accepts connections and begins their sessions until no further session may begin, or the server turns. A connection
 // that is accepted after the stop flag was set gets no session. If the listeners were closed in an earlier volume, it
 // returns the reason for that.
-fn accept_all<'s, E, J, G, R>(
-    server: &Server<'s, E, J, G, R>,
+fn accept_all<'s, E, S, C, K, R>(
+    server: &Server<'s, E, S, C, R>,
     arrivals: &mut Option<Arrivals>,
     course: Course<'s>,
 ) -> Served
 where
-    J: HallName + Send + Sync + 's,
-    G: Commits<J> + Sync + 's,
+    S: Converses<C> + Reads<K> + Sync + 's,
+    C: Drop + Send + Sync + 's,
+    K: Drop + Send + 's,
     R: Threads + Wait + Log + Clock + Sync + 's,
     ensures { result ≡ Served.All → IfNone course.entry.stop (0 < course.entry.limits.total) }
 {
-    let mut reader = server.state.hall.reader(server.rt).ok();
+    let mut reader = server.state.reader(server.rt);
     for _ in server.rt.forever() {
-        server.state.control.tick(server.rt, now(server.rt));
+        let control = &server.state.shared().control;
+        control.tick(server.rt, now(server.rt));
         if let Some(reader) = &mut reader {
             count_new(server.alloc, server.state, reader);
         }
-        if let Some(served) = accept_one(server, arrivals, course) {
+        if let Some(served) = accept_one::<E, S, C, K, R>(server, arrivals, course) {
             return served;
         }
     }
@@ -110,14 +113,15 @@ where
 }
 
 // Accepts a connection, if there is one, and begins its session. Returns the reason if no further one is accepted.
-fn accept_one<'s, E, J, G, R>(
-    server: &Server<'s, E, J, G, R>,
+fn accept_one<'s, E, S, C, K, R>(
+    server: &Server<'s, E, S, C, R>,
     arrivals: &mut Option<Arrivals>,
     course: Course<'s>,
 ) -> Option<Served>
 where
-    J: HallName + Send + Sync + 's,
-    G: Commits<J> + Sync + 's,
+    S: Converses<C> + Reads<K> + Sync + 's,
+    C: Drop + Send + Sync + 's,
+    K: Drop + Send + 's,
     R: Threads + Wait + Log + Clock + Sync + 's,
     ensures { IfSome result
         (λ served. served ≡ Served.All → IfNone course.entry.stop (0 < course.entry.limits.total)) }
@@ -129,12 +133,12 @@ where
     let Some(arrivals) = arrivals else {
         return Some(Served::Failed);
     };
-    if course.turning.is_due(server) {
+    if course.turning.is_due::<E, S, C, K, R>(server) {
         return Some(Served::Due);
     }
     match arrivals.next(server.rt) {
         Arrival::Never => return Some(Served::Failed),
-        _ if server.state.gate.has_failed() => return Some(Served::Failed),
+        _ if server.state.has_failed() => return Some(Served::Failed),
         Arrival::Telnet(stream, peer) if !is_set(stop) => server.welcome(stream, peer),
         Arrival::Web(stream, peer) if !is_set(stop) => server.receive(stream, peer),
         _ => {}
@@ -143,10 +147,10 @@ where
 }
 
 // Seats the sessions that rested. One that can't sit again ends.
-fn seat_each<'s, E, J, G, R>(server: &Server<'s, E, J, G, R>, guests: Vec<Guest>) -> Vec<Seated<J>>
+fn seat_each<'s, E, S, C, R>(server: &Server<'s, E, S, C, R>, guests: Vec<Guest>) -> Vec<Seated<C>>
 where
-    J: HallName + Send + Sync + 's,
-    G: Commits<J> + Sync + 's,
+    S: Converses<C> + Sync + 's,
+    C: Drop + Send + Sync + 's,
     R: Threads + Wait + Log + Clock + Sync + 's,
 {
     let mut all = Vec::new(server.alloc);
@@ -161,10 +165,10 @@ where
 }
 
 // Seats the sessions that rested, and only then starts their threads: so nobody misses what others say.
-fn seat_all<'s, E, J, G, R>(server: &Server<'s, E, J, G, R>, guests: Vec<Guest>)
+fn seat_all<'s, E, S, C, R>(server: &Server<'s, E, S, C, R>, guests: Vec<Guest>)
 where
-    J: HallName + Send + Sync + 's,
-    G: Commits<J> + Sync + 's,
+    S: Converses<C> + Sync + 's,
+    C: Drop + Send + Sync + 's,
     R: Threads + Wait + Log + Clock + Sync + 's,
 {
     let mut count = 0u32;
@@ -172,7 +176,7 @@ where
         server.go_on(seated);
         count = count.saturating_add(1);
     }
-    let (control, begun) = (&server.state.control, server.state.hall.loaded_count());
+    let (control, begun) = (&server.state.shared().control, server.state.loaded_count());
     server
         .quay
         .tell_turn(server.rt, &control.tally, begun, count);
@@ -181,23 +185,24 @@ where
 // Waits until no session is left, or it is time to turn: then it returns `Due`, and otherwise the reason why no further
 // connection was accepted. Once the server is shutting down or the journal has failed, the sessions should end too; a
 // socket that is not shut within five seconds is shut then.
-fn see_out<'s, E, J, G, R>(
-    server: &Server<'s, E, J, G, R>,
+fn see_out<'s, E, S, C, K, R>(
+    server: &Server<'s, E, S, C, R>,
     course: Course<'s>,
     served: Served,
 ) -> Served
 where
-    J: HallName + Send + Sync + 's,
-    G: Commits<J> + Sync + 's,
+    S: Converses<C> + Reads<K> + Sync + 's,
+    C: Drop + Send + Sync + 's,
+    K: Drop + Send + 's,
     R: Threads + Wait + Log + Clock + Sync + 's,
     ensures { (result ≡ Served.Due) ⊎ (result ≡ served) }
 {
-    if course.stop.is_none() && server.state.gate.is_open() {
+    if course.stop.is_none() && server.state.lacks_journal() {
         return served;
     }
     for _ in server.rt.forever() {
         match look_at_rest(server.rt, server.state, course.stop) {
-            Remaining::Some if course.turning.is_due(server) => return Served::Due,
+            Remaining::Some if course.turning.is_due::<E, S, C, K, R>(server) => return Served::Due,
             Remaining::Some => {}
             Remaining::Nobody => return served,
             Remaining::Ends(ending) => {
@@ -211,14 +216,15 @@ where
 
 // Seats the sessions that rested, accepts connections as long as it may, and waits for the sessions to rest or to end.
 // The caller's scope ends once they do.
-fn take_and_see_out<'s, E, J, G, R>(
-    server: &Server<'s, E, J, G, R>,
+fn take_and_see_out<'s, E, S, C, K, R>(
+    server: &Server<'s, E, S, C, R>,
     course: Course<'s>,
     comers: Comers,
 ) -> (Option<Arrivals>, Served)
 where
-    J: HallName + Send + Sync + 's,
-    G: Commits<J> + Sync + 's,
+    S: Converses<C> + Reads<K> + Sync + 's,
+    C: Drop + Send + Sync + 's,
+    K: Drop + Send + 's,
     R: Threads + Wait + Log + Clock + Sync + 's,
     ensures { result.1 ≡ Served.All → IfNone course.entry.stop (0 < course.entry.limits.total) }
 {
@@ -226,11 +232,11 @@ where
     let mut arrivals = arrivals;
     course.turning.begin(server.rt, server.state);
     seat_all(server, guests);
-    let mut served = accept_all(server, &mut arrivals, course);
+    let mut served = accept_all::<E, S, C, K, R>(server, &mut arrivals, course);
     if served != Served::Due {
         arrivals = None;
-        server.state.lobby.close(server.rt);
-        served = see_out(server, course, served);
+        server.state.shared().lobby.close(server.rt);
+        served = see_out::<E, S, C, K, R>(server, course, served);
     }
     if served == Served::Due {
         served = Served::Turns(begin_rest(server.rt, server.state));
@@ -270,8 +276,9 @@ pub(crate) fn serve_sessions<
             alloc,
             state,
             quay: course.quay,
+            of: PhantomData::<Connection<J>>,
         };
-        take_and_see_out(&server, course, comers)
+        take_and_see_out::<_, _, _, Reader<J>, _>(&server, course, comers)
     })
 }
 

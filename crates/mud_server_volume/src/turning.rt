@@ -6,9 +6,8 @@ use log::{Log, warn};
 use mud_chron::Entry;
 use mud_compact::shorten;
 use mud_control::Tally;
-use mud_hall::HallName;
-use mud_server_state::Commits;
-use mud_server_threads::{Server, StateOf};
+use mud_server_state::{Reads, Shares};
+use mud_server_threads::{Converses, Server};
 use std::alloc::{AllocError, Global};
 use std::sync::{Mutex, Wait};
 use std::thread::Threads;
@@ -110,28 +109,31 @@ impl Turning {
     }
 
     /// Tells the sessions from when on their lines wait for the turn.
-    pub(crate) fn begin<J: HallName, G: Commits<J>, R: Wait>(&self, rt: &R, state: &StateOf<J, G>) {
+    pub(crate) fn begin<S: Shares, R: Wait>(&self, rt: &R, state: &S) {
         if let Some(plan) = &self.plan {
-            let from = plan.lock(rt).held_from(state.limits.capacity as usize);
-            state.hold_from(from);
+            let shared = state.shared();
+            let from = plan.lock(rt).held_from(shared.limits.capacity as usize);
+            shared.hold_from(from);
         }
     }
 
     /// Starts the search if it is time for it. Returns whether the server should turn now.
-    pub(crate) fn is_due<'s, E, J, G, R>(&'s self, server: &Server<'s, E, J, G, R>) -> bool
+    pub(crate) fn is_due<'s, E, S, C, K, R>(&'s self, server: &Server<'s, E, S, C, R>) -> bool
     where
-        J: HallName + Send + Sync + 's,
-        G: Commits<J> + Sync + 's,
+        S: Converses<C> + Reads<K> + Sync + 's,
+        C: Drop + Send + Sync + 's,
+        K: Drop + Send + 's,
         R: Threads + Wait + Log + Clock + Sync + 's,
     {
         let Some(plan) = &self.plan else {
             return false;
         };
-        let control = &server.state.control;
+        let shared = server.state.shared();
+        let control = &shared.control;
         let mut plan = plan.lock(server.rt);
         plan.is_requested = control.take_request() || plan.is_requested;
         let fill = Fill {
-            capacity: server.state.limits.capacity as usize,
+            capacity: shared.limits.capacity as usize,
             changes: control.tally.changes() as usize,
             least: plan.least,
             is_requested: plan.is_requested,
@@ -142,11 +144,11 @@ impl Turning {
             Step::Search => {
                 plan.searched = Searched::Runs;
                 drop(plan);
-                self.begin_search(server);
+                self.begin_search::<E, S, C, K, R>(server);
             }
             Step::Drop => {
                 let taken = plan.drop_found(fill.capacity);
-                server.state.hold_from(plan.held_from(fill.capacity));
+                shared.hold_from(plan.held_from(fill.capacity));
                 drop(plan);
                 let (tally, most) = (&control.tally, fill.capacity);
                 tell_large(
@@ -163,24 +165,27 @@ impl Turning {
     }
 
     // Starts the thread that searches for a proposal.
-    fn begin_search<'s, E, J, G, R>(&'s self, server: &Server<'s, E, J, G, R>)
+    fn begin_search<'s, E, S, C, K, R>(&'s self, server: &Server<'s, E, S, C, R>)
     where
-        J: HallName + Send + Sync + 's,
-        G: Commits<J> + Sync + 's,
+        S: Converses<C> + Reads<K> + Sync + 's,
+        C: Drop + Send + Sync + 's,
+        K: Drop + Send + 's,
         R: Threads + Wait + Log + Clock + Sync + 's,
     {
         let other = server.again();
-        let searching = server.scope.spawn(move || self.search(&other));
+        let searching = server
+            .scope
+            .spawn(move || self.search::<E, S, C, K, R>(&other));
         if searching.is_err() {
             self.end_search(server, None);
         }
     }
 
     // Records what the search found. If it found nothing, because memory or a thread lacks, it is tried again later.
-    fn end_search<'s, E, J, G, R>(&self, server: &Server<'s, E, J, G, R>, found: Option<Proposal>)
+    fn end_search<'s, E, S, C, R>(&self, server: &Server<'s, E, S, C, R>, found: Option<Proposal>)
     where
-        J: HallName + Send + Sync + 's,
-        G: Commits<J> + Sync + 's,
+        S: Converses<C> + Sync + 's,
+        C: Drop + Send + Sync + 's,
         R: Threads + Wait + Log + Clock + Sync + 's,
     {
         let Some(plan) = &self.plan else {
@@ -190,24 +195,26 @@ impl Turning {
         match found {
             Some(found) => plan.searched = Searched::Found(found),
             None => {
-                let changes = server.state.control.tally.changes() as usize;
-                let capacity = server.state.limits.capacity as usize;
+                let shared = server.state.shared();
+                let changes = shared.control.tally.changes() as usize;
+                let capacity = shared.limits.capacity as usize;
                 plan.searched = Searched::Idle;
                 plan.is_requested = false;
                 plan.least = changes.saturating_add(retry_step(capacity));
-                server.state.hold_from(plan.held_from(capacity));
+                shared.hold_from(plan.held_from(capacity));
             }
         }
     }
 
     // Searches for a shorter history of the present world.
-    fn search<'s, E, J, G, R>(&self, server: &Server<'s, E, J, G, R>)
+    fn search<'s, E, S, C, K, R>(&self, server: &Server<'s, E, S, C, R>)
     where
-        J: HallName + Send + Sync + 's,
-        G: Commits<J> + Sync + 's,
+        S: Converses<C> + Reads<K> + Sync + 's,
+        C: Drop + Send + Sync + 's,
+        K: Drop + Send + 's,
         R: Threads + Wait + Log + Clock + Sync + 's,
     {
-        let found = match self.read(server.rt, server.alloc, server.state) {
+        let found = match self.read::<S, K, R>(server.rt, server.alloc, server.state) {
             Some(entries) => propose(server.alloc, &entries),
             None => None,
         };
@@ -215,15 +222,15 @@ impl Turning {
     }
 
     // Returns the present history, or `None` if an allocation fails.
-    fn read<J: HallName, G: Commits<J>, R: Wait>(
+    fn read<S: Reads<K>, K: Drop, R: Wait>(
         &self,
         rt: &R,
         alloc: Global,
-        state: &StateOf<J, G>,
+        state: &S,
     ) -> Option<Vec<Entry>> {
-        let mut reader = state.hall.reader(rt).ok()?;
+        let mut reader = state.reader(rt)?;
         let mut entries = copies(alloc, &self.loaded).ok()?;
-        let more = reader.read(alloc, &state.hall, state.limits.capacity).ok()?;
+        let more = state.read(alloc, &mut reader, state.shared().limits.capacity)?;
         for entry in more {
             entries.push(entry).ok()?;
         }

@@ -102,7 +102,7 @@ fn state_of<J: HallName, G: Commits<J>, R: Wait + Log>(
     } = company;
     let control = Arc::try_clone(terms.control)?;
     let state = ServerState::new(alloc, hall, terms.limits, gate, lobby, control)?;
-    state.set_player_count(players);
+    state.shared.set_player_count(players);
     state.begin(rt, volume);
     Ok((state, Comers { guests, arrivals }))
 }
@@ -140,7 +140,7 @@ fn settle_one<J: HallName, D: Disk + Drop, R: Wait + Log>(
     ensures going { IfOk result (λ e. e.journal.has_failed ≡ false) }
     ensures fault { IfErr result IsInnerFault }
 {
-    let players = state.player_count();
+    let players = state.shared.player_count();
     let Ok((hall, desks, lobby, gate)) = state.into_parts(alloc) else {
         return Err(ServerFault::OutOfMemory);
     };

@@ -20,6 +20,7 @@ RUNS = {
     "turns 1 9000": 3,
     "hall/run 1": 9,
     "workers/run 1": 8,
+    "first HEAD mud_key": 8,
 }
 SECONDS = 900
 

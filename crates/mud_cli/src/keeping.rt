@@ -3,7 +3,7 @@
 use crate::fault::CommandFault;
 use crate::form::program_of;
 use crate::keeping_forms::forms;
-use crate::matches::{Unfit, fit, matched};
+use crate::matches::{Matched, Unfit};
 use clap::error::ErrorKind;
 use clap::{ArgMatches, Command};
 use std::alloc::{AllocError, Global};
@@ -293,9 +293,9 @@ fn form_in<'m, 'a>(matches: &'m ArgMatches<'a>) -> Option<(&'a str, &'m ArgMatch
 
 /// Reads the words of `mud_keep`. The first word is the program's name.
 pub fn keeping_of<'a>(alloc: Global, words: &'a [String]) -> Result<Keeping<'a>, CommandFault> {
-    let (command, matches) = matched(alloc, command(alloc), words)?;
-    let task = keeping_in(alloc, &matches);
-    fit(alloc, command, ErrorKind::MissingSubcommand, task)
+    let mut matched = Matched::new(alloc, command(alloc), words)?;
+    let task = keeping_in(alloc, &matched.words);
+    matched.fit(alloc, ErrorKind::MissingSubcommand, task)
 }
 
 // Builds the `clap` command.

@@ -25,49 +25,60 @@ impl<T: Drop> From<AllocFailed<T>> for Unfit {
     }
 }
 
-// Matches the words against a command, and returns the command too.
-pub(crate) fn matched<'a>(
-    alloc: Global,
-    command: Result<Command<'a>, AllocError>,
-    words: &'a [String],
-) -> Result<(Command<'a>, ArgMatches<'a>), CommandFault> {
-    let Ok(mut command) = command else {
-        return Err(CommandFault::OutOfMemory);
-    };
-    match command.try_get_matches_from_mut(words) {
-        Ok(matches) => Ok((command, matches)),
-        Err(error) => Err(fault_of_error(alloc, &error)),
+// A command, and the words that it matched.
+pub(crate) struct Matched<'a> {
+    command: Command<'a>,
+    pub(crate) words: ArgMatches<'a>,
+}
+
+impl Drop for Matched<'_> {
+    fn drop(self) {
+        let Matched { command, words } = self;
+        drop(command);
+        drop(words);
     }
 }
 
-// Returns the task, or a fault with an error of this kind.
-pub(crate) fn fit<T: Drop>(
-    alloc: Global,
-    command: Command<'_>,
-    kind: ErrorKind,
-    task: Result<T, Unfit>,
-) -> Result<T, CommandFault>
-    ensures { IfOk result (λ t. task ≡ Ok t) }
-{
-    match task {
-        Ok(task) => Ok(task),
-        Err(unfit) => Err(fault_of_unfit(alloc, command, kind, unfit)),
+impl<'a> Matched<'a> {
+    // Matches the words against a command.
+    pub(crate) fn new(
+        alloc: Global,
+        command: Result<Command<'a>, AllocError>,
+        words: &'a [String],
+    ) -> Result<Matched<'a>, CommandFault> {
+        let Ok(mut command) = command else {
+            return Err(CommandFault::OutOfMemory);
+        };
+        match command.try_get_matches_from_mut(words) {
+            Ok(words) => Ok(Matched { command, words }),
+            Err(error) => Err(fault_of_error(alloc, &error)),
+        }
     }
-}
 
-// Returns the fault for words that `clap` accepts and the program does not.
-fn fault_of_unfit(
-    alloc: Global,
-    mut command: Command<'_>,
-    kind: ErrorKind,
-    unfit: Unfit,
-) -> CommandFault {
-    let error = match unfit {
-        Unfit::OutOfMemory => Err(AllocError),
-        Unfit::Told(message) => command.error(kind, message),
-    };
-    match error {
-        Ok(error) => fault_of_error(alloc, &error),
-        Err(_) => CommandFault::OutOfMemory,
+    // Returns the task, or a fault with an error of this kind.
+    pub(crate) fn fit<T: Drop>(
+        &mut self,
+        alloc: Global,
+        kind: ErrorKind,
+        task: Result<T, Unfit>,
+    ) -> Result<T, CommandFault>
+        ensures { IfOk result (λ t. task ≡ Ok t) }
+    {
+        match task {
+            Ok(task) => Ok(task),
+            Err(unfit) => Err(self.fault_of(alloc, kind, unfit)),
+        }
+    }
+
+    // Returns the fault for words that `clap` accepts and the program does not.
+    fn fault_of(&mut self, alloc: Global, kind: ErrorKind, unfit: Unfit) -> CommandFault {
+        let error = match unfit {
+            Unfit::OutOfMemory => Err(AllocError),
+            Unfit::Told(message) => self.command.error(kind, message),
+        };
+        match error {
+            Ok(error) => fault_of_error(alloc, &error),
+            Err(_) => CommandFault::OutOfMemory,
+        }
     }
 }

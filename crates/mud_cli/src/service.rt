@@ -8,7 +8,7 @@ use crate::fault::CommandFault;
 use crate::form::{Form, program_of};
 use crate::limits::{ChosenLimits, ChosenRates, MOST_TOTAL, limits_in, rates_in};
 use crate::listen::{CHECK, LISTEN};
-use crate::matches::{Unfit, fit, matched};
+use crate::matches::{Matched, Unfit};
 use crate::origin::is_origin;
 use clap::error::ErrorKind;
 use clap::{ArgMatches, Command};
@@ -104,9 +104,9 @@ pub struct WebListening<'a> {
 pub fn service_of<'a>(alloc: Global, words: &'a [String]) -> Result<Service<'a>, CommandFault>
     ensures { IfOk result IsServed }
 {
-    let (command, matches) = matched(alloc, command(alloc), words)?;
-    let task = served_in(&matches);
-    fit(alloc, command, ErrorKind::ValueValidation, task)
+    let mut matched = Matched::new(alloc, command(alloc), words)?;
+    let task = served_in(&matched.words);
+    matched.fit(alloc, ErrorKind::ValueValidation, task)
 }
 
 const NO_ORIGIN: &str =

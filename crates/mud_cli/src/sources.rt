@@ -4,7 +4,7 @@ use crate::argument::{Argument, PLACE};
 use crate::build::VERSION;
 use crate::fault::CommandFault;
 use crate::form::{Form, command_of};
-use crate::matches::{Unfit, fit, matched};
+use crate::matches::{Matched, Unfit};
 use clap::error::ErrorKind;
 use clap::{ArgMatches, Command};
 use std::alloc::{AllocError, Global};
@@ -21,9 +21,9 @@ pub enum Sources<'a> {
 /// Reads the words of `mud_check`. The first word is the program's name. Two more words name two files; without them
 /// both texts come from standard input.
 pub fn sources_of<'a>(alloc: Global, words: &'a [String]) -> Result<Sources<'a>, CommandFault> {
-    let (command, matches) = matched(alloc, command(alloc), words)?;
-    let task = sources_in(&matches);
-    fit(alloc, command, ErrorKind::MissingRequiredArgument, task)
+    let mut matched = Matched::new(alloc, command(alloc), words)?;
+    let task = sources_in(&matched.words);
+    matched.fit(alloc, ErrorKind::MissingRequiredArgument, task)
 }
 
 // Returns the two files, if both are named.

@@ -7,7 +7,7 @@ use crate::argument::{CAPACITY, LOAD};
 use crate::fault::CommandFault;
 use crate::form::{Form, program_of};
 use crate::limits::MOST_CAPACITY;
-use crate::matches::{Unfit, fit, matched};
+use crate::matches::{Matched, Unfit};
 use crate::subject::{Subject, subject_named};
 use clap::error::ErrorKind;
 use clap::{ArgMatches, Command};
@@ -35,9 +35,9 @@ pub struct Opening<'a> {
 pub fn task_of<'a>(alloc: Global, words: &'a [String]) -> Result<Task<'a>, CommandFault>
     ensures { IfOk result IsWithin }
 {
-    let (command, matches) = matched(alloc, command(alloc), words)?;
-    let task = explained_in(&matches);
-    fit(alloc, command, ErrorKind::MissingSubcommand, task)
+    let mut matched = Matched::new(alloc, command(alloc), words)?;
+    let task = explained_in(&matched.words);
+    matched.fit(alloc, ErrorKind::MissingSubcommand, task)
 }
 
 // Returns the task that the matched words name, or the message that they name none.

@@ -16,12 +16,12 @@ use std::sync::{Arc, Mutex, Wait};
 use std::time::Duration;
 
 /// The means by which a host ends and watches a server.
-#[derive(Drop)]
+#[derive(Clone, Copy)]
 pub struct Hosting<'s> {
     /// The stop flag, or `None` if the server ends by its total only.
     pub stop: Option<&'s StopSign>,
     /// The state that the server shares with the host's threads.
-    pub control: Arc<Control>,
+    pub control: &'s Arc<Control>,
 }
 
 /// The state that the threads of a server share with those of its host.
@@ -80,19 +80,14 @@ impl Drop for Control {
     }
 }
 
-impl<'s> Hosting<'s> {
-    /// Returns the means of a server without a host: it ends by its total only, and has no rate limits. It has this
-    /// number of places for sessions. The only error is out of memory.
-    pub fn alone(alloc: Global, places: u32) -> Result<Hosting<'s>, AllocError> {
-        let control = Control::new(alloc, places, Rates::NONE, Bans::new(alloc))?;
-        Ok(Hosting {
-            stop: None,
-            control: Arc::new(alloc, control).map_err(AllocError::from)?,
-        })
-    }
-}
-
 impl Control {
+    /// Returns the control of a server without a host: it has no rate limits. It has this number of places for
+    /// sessions. The only error is out of memory.
+    pub fn alone(alloc: Global, places: u32) -> Result<Arc<Control>, AllocError> {
+        let control = Control::new(alloc, places, Rates::NONE, Bans::new(alloc))?;
+        Ok(Arc::new(alloc, control).map_err(AllocError::from)?)
+    }
+
     /// Returns the control of a new server with this number of places for sessions. The only error is out of memory.
     pub fn new(
         alloc: Global,

@@ -103,7 +103,7 @@ fn read_all<R: Runtime + Files<File = File> + AllocGlobal + Wait + Clock>(host: 
             Err(error) if error.kind() == ErrorKind::Interrupted => continue,
             Err(_) => return,
         }
-        if host.control.sign.is_set() {
+        if host.control().sign.is_set() {
             return;
         }
     }
@@ -112,7 +112,7 @@ fn read_all<R: Runtime + Files<File = File> + AllocGlobal + Wait + Clock>(host: 
 /// Runs the console on standard input. Its end stops the server.
 pub fn watch<R: Runtime + Files<File = File> + AllocGlobal + Wait + Clock>(host: &Host<R>) {
     read_all(host);
-    host.control.sign.set();
+    host.control().sign.set();
 }
 
 // Consumes bytes from the socket, and answers each of their lines there.

@@ -38,7 +38,7 @@ pub(crate) struct About {
 #[derive(Drop)]
 pub struct Host<R> {
     pub(crate) rt: R,
-    pub(crate) control: Arc<Control>,
+    control: Arc<Control>,
     book: Arc<Logbook<R>>,
     about: About,
     // The lock of the current order, so that two consoles don't write the same file at once.
@@ -105,15 +105,20 @@ impl<R> Host<R> {
             obeying: Mutex::new(()),
         }
     }
+
+    /// Returns the state that the server shares with its host.
+    pub(crate) fn control(&self) -> &Control {
+        &self.control
+    }
 }
 
 impl<R: AllocGlobal + Wait + Clock> Host<R> {
     // Returns the health of the server.
     fn health(&self) -> Health {
-        let tally = &self.control.tally;
+        let tally = &self.control().tally;
         if tally.has_failed() {
             Health::JournalFault
-        } else if self.control.sign.is_set() {
+        } else if self.control().sign.is_set() {
             Health::Stopping
         } else if u64::from(self.about.capacity) <= tally.changes() {
             Health::Full
@@ -124,8 +129,8 @@ impl<R: AllocGlobal + Wait + Clock> Host<R> {
 
     /// Returns the status of the server. The text is the time of its start.
     pub(crate) fn status<'a>(&'a self, since: &'a str) -> Status<'a> {
-        let (tally, about) = (&self.control.tally, &self.about);
-        let (sessions, players) = self.control.roster.counts(&self.rt);
+        let (tally, about) = (&self.control().tally, &self.about);
+        let (sessions, players) = self.control().roster.counts(&self.rt);
         Status {
             version: about.version,
             since,
@@ -174,7 +179,7 @@ impl<R: AllocGlobal + Wait + Clock> Host<R> {
     // Appends the sessions.
     fn tell_sessions(&self, answer: &mut Answer) -> Result<(), AllocError> {
         let alloc = self.rt.alloc();
-        for row in &self.control.roster.rows(&self.rt, alloc, now(&self.rt))? {
+        for row in &self.control().roster.rows(&self.rt, alloc, now(&self.rt))? {
             answer.line(row_text(alloc, row)?.as_str())?;
         }
         Ok(())
@@ -182,7 +187,7 @@ impl<R: AllocGlobal + Wait + Clock> Host<R> {
 
     // Appends the bans.
     fn tell_bans(&self, answer: &mut Answer) -> Result<(), AllocError> {
-        let text = self.control.bans_text(&self.rt)?;
+        let text = self.control().bans_text(&self.rt)?;
         for network in text.as_str().lines() {
             let line = format!(in self.rt.alloc(); "ban {network}")?;
             answer.line(line.as_str())?;
@@ -197,7 +202,7 @@ impl<R: AllocGlobal + Wait + Clock> Host<R> {
 
     // Ends the session with this number.
     fn end(&self, number: u32) -> Result<(), Refused> {
-        if self.control.roster.end(&self.rt, number) {
+        if self.control().roster.end(&self.rt, number) {
             return Ok(());
         }
         let text = format!(in self.rt.alloc(); "{number}")?;
@@ -207,7 +212,7 @@ impl<R: AllocGlobal + Wait + Clock> Host<R> {
     // Announces a text to each player.
     fn tell(&self, text: &str) -> Result<(), Refused> {
         let line = format!(in self.rt.alloc(); "(host: {text})\r\n")?;
-        if self.control.tell_all(&self.rt, line) {
+        if self.control().tell_all(&self.rt, line) {
             Ok(())
         } else {
             Err(Refused::OutOfMemory)
@@ -216,7 +221,7 @@ impl<R: AllocGlobal + Wait + Clock> Host<R> {
 
     // Cancels an announced stop.
     fn stay(&self) -> Result<(), Refused> {
-        if self.control.stay(&self.rt) {
+        if self.control().stay(&self.rt) {
             return Ok(());
         }
         self.refuse("no stop was announced", "")
@@ -227,7 +232,7 @@ impl<R: AllocGlobal + Wait + Clock> Host<R> {
         if !self.about.has_journal {
             return self.refuse("there is no journal", "");
         }
-        self.control.request_volume();
+        self.control().request_volume();
         Ok(())
     }
 
@@ -246,7 +251,7 @@ impl<R: HostFiles + AllocGlobal + Wait + Clock> Host<R> {
         let Some(name) = &self.about.bans else {
             return Ok(());
         };
-        let text = self.control.bans_text(&self.rt)?;
+        let text = self.control().bans_text(&self.rt)?;
         match self.rt.replace_bans(name.as_str(), text.as_str()) {
             Ok(()) => Ok(()),
             Err(error) => {
@@ -262,7 +267,7 @@ impl<R: HostFiles + AllocGlobal + Wait + Clock> Host<R> {
     // Bans a network.
     fn ban(&self, text: &str) -> Result<(), Refused> {
         let network = self.network(text)?;
-        match self.control.ban(&self.rt, network) {
+        match self.control().ban(&self.rt, network) {
             Ok(_) => self.keep_bans(),
             Err(fault) => {
                 let why = format!(in self.rt.alloc(); "{fault}")?;
@@ -274,7 +279,7 @@ impl<R: HostFiles + AllocGlobal + Wait + Clock> Host<R> {
     // Lifts a ban.
     fn unban(&self, text: &str) -> Result<(), Refused> {
         let network = self.network(text)?;
-        if self.control.unban(&self.rt, network) {
+        if self.control().unban(&self.rt, network) {
             self.keep_bans()
         } else {
             self.refuse("not banned: ", text)
@@ -298,7 +303,7 @@ impl<R: HostFiles + AllocGlobal + Wait + Clock> Host<R> {
 
     // Carries out an order, and appends the lines of its answer.
     fn obey(&self, order: Order<'_>, answer: &mut Answer) -> Result<(), Refused> {
-        let (rt, control) = (&self.rt, &self.control);
+        let (rt, control) = (&self.rt, self.control());
         match order {
             Order::Status => self.tell_status(answer)?,
             Order::Sessions => self.tell_sessions(answer)?,

@@ -24,7 +24,6 @@ use mud_server_volume::{Hosting, StopSign};
 use std::alloc::Global;
 use std::io::{Eprint, Print};
 use std::process::ExitCode;
-use std::sync::Arc;
 use std::thread;
 
 // The size of the block that is freed before everything else.
@@ -52,7 +51,7 @@ fn main(rt: HostRuntime) -> ExitCode {
         Err(fault) => return tell_stop(&rt, Stop::from(fault)),
     };
     let status_port = staff.status_port();
-    let (Ok(host), Ok(control)) = (staff.host(), Arc::try_clone(&staff.control)) else {
+    let Ok(host) = staff.host() else {
         return tell_stop(&rt, Stop::OutOfMemory);
     };
     // The prover lets a thread read standard input only if `main` starts it.
@@ -63,7 +62,7 @@ fn main(rt: HostRuntime) -> ExitCode {
     log_start(&logged, status_port);
     let hosting = Hosting {
         stop: sign_for(listening, &staff.control.sign),
-        control,
+        control: &staff.control,
     };
     let ended = listen(&logged, listening, hosting);
     info!(logged; "stop");

@@ -527,7 +527,7 @@ pub fn listen_volumes<S: Shelf, R: Threads + Wait + Log + Clock + Sync + AllocGl
     let terms = Terms {
         limits,
         stop,
-        control: &control,
+        control,
     };
     let going = Going { company, beginning };
     serve_volumes(rt, alloc, volumes, terms, going, out)

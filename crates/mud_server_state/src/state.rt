@@ -43,8 +43,8 @@ pub struct Places<J: HallName> {
 /// flags of its sessions.
 #[derive(Drop)]
 pub struct Shared {
-    /// The state that the server shares with the threads of its host.
-    pub control: Arc<Control>,
+    // The state that the server shares with the threads of its host.
+    control: Arc<Control>,
     pub lobby: Lobby,
     pub limits: Limits,
     // The number of places taken.
@@ -82,6 +82,9 @@ pub struct ServerState<H, P, G> {
 pub trait Shares {
     /// Returns the part that names no hall.
     fn shared(&self) -> &Shared;
+
+    /// Returns the state that the server shares with the threads of its host.
+    fn control(&self) -> &Control;
 
     /// Returns the number of entries that the hall began with.
     fn loaded_count(&self) -> u32;
@@ -155,6 +158,11 @@ impl Shared {
         }
     }
 
+    /// Returns the state that the server shares with the threads of its host.
+    pub fn control(&self) -> &Control {
+        &self.control
+    }
+
     /// Returns the number of places taken.
     pub fn session_count(&self) -> u32 {
         self.taken.load(Ordering::SeqCst)
@@ -221,7 +229,7 @@ impl Shared {
 
     /// Returns whether a line has to wait, because the server has to turn first.
     pub fn is_held(&self) -> bool {
-        self.held_from.load(Ordering::SeqCst) <= self.control.tally.changes()
+        self.held_from.load(Ordering::SeqCst) <= self.control().tally.changes()
     }
 
     /// Counts one more session that rests.
@@ -247,15 +255,15 @@ impl Shared {
 
     // Wakes the notice threads of all sessions but the one at this place, which made a change at the time `now`.
     fn wake_hearers<R: Wait>(&self, rt: &R, at: usize, now: Duration) {
-        self.control
+        self.control()
             .roster
             .wake_hearers(rt, Some(at), now, self.typing_time());
     }
 
     // Tells the host that the journal has failed, and wakes all notice threads.
     fn tell_failure<R: Wait>(&self, rt: &R) {
-        self.control.tally.note_failure();
-        self.control.roster.wake_all(rt);
+        self.control().tally.note_failure();
+        self.control().roster.wake_all(rt);
     }
 
     // Returns the lobby.
@@ -268,6 +276,10 @@ impl Shared {
 impl<J: HallName, G: Commits<J>> Shares for ServerState<Hall<J>, Places<J>, G> {
     fn shared(&self) -> &Shared {
         &self.shared
+    }
+
+    fn control(&self) -> &Control {
+        self.shared.control()
     }
 
     fn loaded_count(&self) -> u32 {
@@ -326,7 +338,7 @@ impl<J: HallName, G: Commits<J>> Shares for ServerState<Hall<J>, Places<J>, G> {
     }
 
     fn release_place<R: Wait>(&self, rt: &R, at: usize) {
-        self.shared.control.roster.leave(rt, at);
+        self.shared.control().roster.leave(rt, at);
         if self.places.release(rt, at) {
             self.shared.taken.fetch_sub(1, Ordering::SeqCst);
         }
@@ -467,7 +479,7 @@ impl<J: HallName, G: Commits<J>> ServerState<Hall<J>, Places<J>, G> {
     /// Records for the host how many entries the journal has synced.
     pub fn note_synced(&self) {
         let synced = self.gate.synced_count() as u64;
-        self.shared.control.tally.note_synced(synced);
+        self.shared.control().tally.note_synced(synced);
     }
 
     /// Records for the host which volume the server continues or begins, and logs a warning if the history is nearly
@@ -475,7 +487,7 @@ impl<J: HallName, G: Commits<J>> ServerState<Hall<J>, Places<J>, G> {
     pub fn begin<R: Wait + Log>(&self, rt: &R, volume: u32) {
         let loaded = self.hall.loaded_count();
         self.shared
-            .control
+            .control()
             .tally
             .begin_volume(volume, u64::from(loaded));
         if !self.gate.is_open() {

@@ -35,12 +35,12 @@ pub fn look_at_rest<S: Shares, R: Wait + Clock>(
     state: &S,
     stop: Option<&StopSign>,
 ) -> Remaining {
-    state.shared().control.tick(rt, now(rt));
+    state.control().tick(rt, now(rt));
     if let Some(sign) = stop
         && sign.is_set()
     {
         state.shared().stop_sessions();
-        state.shared().control.roster.wake_all(rt);
+        state.control().roster.wake_all(rt);
     }
     if let Some(ending) = state.ending() {
         return Remaining::Ends(ending);
@@ -67,7 +67,7 @@ pub fn shut_late<S: Shares, R: Wait>(rt: &R, state: &S, ending: Ending) {
         }
         rest(rt, Duration::from_millis(LOOK_MILLISECONDS));
     }
-    state.shared().control.roster.shut_all(rt, ending);
+    state.control().roster.shut_all(rt, ending);
 }
 
 /// Makes all sessions rest, once no browser in the lobby can begin one any more. A browser has half a second to finish
@@ -85,6 +85,6 @@ pub fn begin_rest<S: Shares, R: Wait + Clock>(rt: &R, state: &S) -> Duration {
     }
     let since = now(rt);
     state.shared().turn();
-    state.shared().control.roster.begin_rest(rt);
+    state.control().roster.begin_rest(rt);
     since
 }

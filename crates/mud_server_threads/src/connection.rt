@@ -331,10 +331,10 @@ impl<J: HallName> Connection<J> {
     ) -> bool {
         for _ in rt.forever() {
             let told = self.told.load(Ordering::SeqCst);
-            if shared.control.news.count() <= told {
+            if shared.control().news.count() <= told {
                 return true;
             }
-            let Some((line, count)) = shared.control.news.after(rt, told) else {
+            let Some((line, count)) = shared.control().news.after(rt, told) else {
                 return true;
             };
             self.told.store(count, Ordering::SeqCst);
@@ -417,7 +417,7 @@ impl<J: HallName, G: Commits<J>> Converses<Connection<J>> for StateOf<J, G> {
     }
 
     fn look_at_all<R: Wait + Clock>(&self, rt: &R, connection: &Connection<J>) -> bool {
-        let all = self.shared.control.tally.changes() as usize;
+        let all = self.shared.control().tally.changes() as usize;
         if self.commit(rt, all).is_some() {
             return self.look(rt, connection);
         }

@@ -31,7 +31,7 @@ fn leave_to_replies<S: Converses<C>, C, R: Wait + Clock>(
     connection: &C,
     sleeper: &Sleeper,
 ) {
-    let (roster, at, visit) = (&state.shared().control.roster, sleeper.at, sleeper.visit);
+    let (roster, at, visit) = (&state.control().roster, sleeper.at, sleeper.visit);
     let longest = Duration::from_millis(LONGEST_MILLISECONDS);
     let mut wait = Duration::ZERO;
     for _ in rt.forever() {

@@ -61,7 +61,7 @@ impl<'a, S: Converses<C>, C, R: Threads + Wait + Log + Clock + Sync> Reading<'a,
     ) -> Reading<'a, S, C, R> {
         let (socket, start) = (state.socket(connection), now(rt));
         let (peer, limits) = (socket.peer(), &state.shared().limits);
-        let control = &state.shared().control;
+        let control = state.control();
         let shared = control.crowd.begin(rt, peer.ip(), start);
         let habits = Habits {
             peer,
@@ -94,7 +94,7 @@ impl<'a, S: Converses<C>, C, R: Threads + Wait + Log + Clock + Sync> Reading<'a,
     fn name(&mut self) {
         if !self.habits.is_named {
             self.habits.is_named = true;
-            self.state.shared().control.tally.count_session();
+            self.state.control().tally.count_session();
             let by = self.state.socket(self.connection).entrance().word();
             log_begin(self.rt, self.number, self.habits.peer, by);
         }
@@ -131,12 +131,12 @@ impl<'a, S: Converses<C>, C, R: Threads + Wait + Log + Clock + Sync> Reading<'a,
     fn hear(&mut self) {
         let now = now(self.rt);
         self.habits.patience.hear(now);
-        self.state.shared().control.roster.hear(self.at, now);
+        self.state.control().roster.hear(self.at, now);
     }
 
     // Counts a wait. The log names it, unless the session waited less than a minute ago.
     fn note_wait(&mut self, now: Duration) {
-        self.state.shared().control.tally.count_wait();
+        self.state.control().tally.count_wait();
         let is_new = match self.habits.last_wait {
             Some(last) => now.saturating_sub(last) > Duration::from_secs(EPISODE_SECONDS),
             None => true,
@@ -156,7 +156,7 @@ impl<'a, S: Converses<C>, C, R: Threads + Wait + Log + Clock + Sync> Reading<'a,
             let Some(wait) = self
                 .habits
                 .pace
-                .take_line(rt, &state.shared().control.excess, moment)
+                .take_line(rt, &state.control().excess, moment)
             else {
                 return true;
             };
@@ -214,11 +214,7 @@ impl<'a, S: Converses<C>, C, R: Threads + Wait + Log + Clock + Sync> Reading<'a,
         };
         log_player(rt, self.number, player, name.as_str());
         if let Ok(copy) = name.clone() {
-            state
-                .shared()
-                .control
-                .roster
-                .name(rt, self.at, player, copy);
+            state.control().roster.name(rt, self.at, player, copy);
         }
         self.habits.player = Some((player, name));
     }
@@ -328,7 +324,7 @@ impl<'a, S: Converses<C>, C, R: Threads + Wait + Log + Clock + Sync> Reading<'a,
         if let Some((player, name)) = &self.habits.player
             && let Ok(copy) = name.clone()
         {
-            let roster = &self.state.shared().control.roster;
+            let roster = &self.state.control().roster;
             roster.name(self.rt, self.at, *player, copy);
         }
     }
@@ -391,7 +387,7 @@ impl<'a, S: Converses<C>, C, R: Threads + Wait + Log + Clock + Sync> Reading<'a,
         let (rt, state, connection) = (self.rt, self.state, self.connection);
         state.hang_up(connection);
         if self.habits.pace.is_shared() {
-            state.shared().control.crowd.end(rt, self.habits.peer.ip());
+            state.control().crowd.end(rt, self.habits.peer.ip());
         }
         if state.part(rt, connection, parting) {
             state.give_back(rt, connection, self.at);
@@ -418,7 +414,7 @@ impl<'a, S: Converses<C>, C, R: Threads + Wait + Log + Clock + Sync> Reading<'a,
             self.log_end(parting);
         } else {
             let address = self.habits.peer.ip();
-            log_refusal(rt, &state.shared().control.tally, address, Refusal::Request);
+            log_refusal(rt, &state.control().tally, address, Refusal::Request);
         }
     }
 
@@ -436,7 +432,7 @@ impl<'a, S: Converses<C>, C, R: Wait + Log + Clock> Reading<'a, S, C, R> {
     // Counts an answered line for the rate limits and for the host. A line end without an answer, such as the second
     // one of CR LF, keeps its token for the next line.
     fn spend(&mut self, stepped: Stepped) {
-        let (rt, control) = (self.rt, &self.state.shared().control);
+        let (rt, control) = (self.rt, self.state.control());
         if stepped.has_line && stepped.is_silent {
             self.habits.pace.give_back();
         } else if stepped.has_line {
@@ -457,7 +453,7 @@ impl<'a, S: Converses<C>, C, R: Wait + Log + Clock> Reading<'a, S, C, R> {
         self.state
             .announce_change(self.rt, self.at, version, stepped.ended);
         let shared = self.state.shared();
-        shared.control.tally.count_change(version as u64);
+        shared.control().tally.count_change(version as u64);
         shared.warn_if_nearly_full(self.rt, version);
         if !self.habits.is_counted {
             self.habits.is_counted = true;

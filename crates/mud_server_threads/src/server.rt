@@ -124,7 +124,7 @@ where
     /// Returns whether a connection of this address may be accepted: the address is not banned, and within its limit.
     /// Otherwise the connection is closed without a word.
     pub(crate) fn may_come(&self, address: IpAddr) -> bool {
-        let (rt, control) = (self.rt, &self.state.shared().control);
+        let (rt, control) = (self.rt, self.state.control());
         if control.is_banned(rt, address) {
             log_refusal(rt, &control.tally, address, Refusal::Banned);
             return false;
@@ -145,7 +145,7 @@ where
         let place = self.state.take_place(self.rt, address);
         if let Err(no_place) = place {
             self.settle(false);
-            let tally = &shared.control.tally;
+            let tally = &shared.control().tally;
             log_refusal(self.rt, tally, address, refusal_of(no_place));
         }
         place
@@ -171,7 +171,7 @@ where
         let (kept, reads, tells) = shared(self.alloc, self.state.connection(socket, told))?;
         let (parker, unparker) = waker(self.alloc)?;
         let member = Member::new(unparker, theirs, since_seconds);
-        let roster = &self.state.shared().control.roster;
+        let roster = &self.state.control().roster;
         let visit = roster.enter(self.rt, at, member, heard);
         Some(Begun {
             kept,
@@ -185,17 +185,13 @@ where
     // Gives the session at the place the number of its desk, and ends it if its address was banned while it began.
     fn number(&self, at: usize, begun: &mut Begun<C>, number: u32) {
         begun.number = number;
-        self.state
-            .shared()
-            .control
-            .roster
-            .number(self.rt, at, number);
+        self.state.control().roster.number(self.rt, at, number);
         self.dismiss_banned(&begun.kept);
     }
 
     /// Opens a session at the place. Everything that can fail without a desk comes first.
     pub(crate) fn open(&self, at: usize, socket: Arc<Socket>) -> Option<Begun<C>> {
-        let told = self.state.shared().control.news.count();
+        let told = self.state.control().news.count();
         let mut begun = self.enter(at, socket, unix_seconds(self.rt), told, now(self.rt))?;
         let number = self.state.start(self.rt, self.alloc, &*begun.kept, at)?;
         self.number(at, &mut begun, number);
@@ -205,12 +201,7 @@ where
     // Ends a session whose address was banned while it began.
     fn dismiss_banned(&self, connection: &C) {
         let socket = self.state.socket(connection);
-        if self
-            .state
-            .shared()
-            .control
-            .is_banned(self.rt, socket.peer().ip())
-        {
+        if self.state.control().is_banned(self.rt, socket.peer().ip()) {
             socket.dismiss();
         }
     }
@@ -278,7 +269,7 @@ where
         let (rt, peer) = (self.rt, habits.peer);
         socket.shut();
         if habits.pace.is_shared() {
-            self.state.shared().control.crowd.end(rt, peer.ip());
+            self.state.control().crowd.end(rt, peer.ip());
         }
         let parting = socket.part(rt, Parting::OutOfMemory);
         log_end(rt, number, peer, parting);

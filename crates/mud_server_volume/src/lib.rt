@@ -14,7 +14,8 @@
 //! let limits = Limits {
 //!     sessions: 64, per_address: 0, total: 2, counts_players: false, workers: 0, capacity: 1000, idle: 0, unnamed: 0,
 //! };
-//! let hosting = Hosting::alone(rt.alloc(), 64)?;
+//! let control = Control::alone(rt.alloc(), 64)?;
+//! let hosting = Hosting { stop: None, control: &control };
 //! let mut sink = Sink::new(io::writer(&rt));
 //! listen_on(&rt, doors, limits, Vec::new(rt.alloc()), hosting, &mut sink)?;
 //! ```

@@ -29,7 +29,7 @@ use mud_socket::now;
 use std::alloc::{AllocFailed, Global};
 use std::io::Write;
 use std::marker::{Brand, PhantomData};
-use std::sync::Wait;
+use std::sync::{Arc, Wait};
 use std::thread;
 use std::thread::Threads;
 use std::time::{Clock, Duration};
@@ -100,7 +100,7 @@ where
 {
     let mut reader = server.state.reader(server.rt);
     for _ in server.rt.forever() {
-        let control = &server.state.shared().control;
+        let control = server.state.control();
         control.tick(server.rt, now(server.rt));
         if let Some(reader) = &mut reader {
             count_new(server.alloc, server.state, reader);
@@ -176,7 +176,7 @@ where
         server.go_on(seated);
         count = count.saturating_add(1);
     }
-    let (control, begun) = (&server.state.shared().control, server.state.loaded_count());
+    let (control, begun) = (server.state.control(), server.state.loaded_count());
     server
         .quay
         .tell_turn(server.rt, &control.tally, begun, count);
@@ -339,6 +339,7 @@ fn serve_all<J: HallName + Send + Sync, R: Threads + Wait + Log + Clock + Sync>(
     let Hosting { stop, control } = hosting;
     let hall = hall.with_name::<J>();
     let lobby = Lobby::new(alloc, site)?;
+    let control = Arc::try_clone(control)?;
     let state = ServerState::new(alloc, hall, limits, Gate::open(), lobby, control)?;
     state.begin(rt, 1);
     let is_served = serve_connections(rt, alloc, &state, listeners, limits, stop)?;

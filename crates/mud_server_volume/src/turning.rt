@@ -129,7 +129,7 @@ impl Turning {
             return false;
         };
         let shared = server.state.shared();
-        let control = &shared.control;
+        let control = shared.control();
         let mut plan = plan.lock(server.rt);
         plan.is_requested = control.take_request() || plan.is_requested;
         let fill = Fill {
@@ -196,7 +196,7 @@ impl Turning {
             Some(found) => plan.searched = Searched::Found(found),
             None => {
                 let shared = server.state.shared();
-                let changes = shared.control.tally.changes() as usize;
+                let changes = shared.control().tally.changes() as usize;
                 let capacity = shared.limits.capacity as usize;
                 plan.searched = Searched::Idle;
                 plan.is_requested = false;

@@ -3,10 +3,16 @@
 use std::alloc::{AllocError, Global};
 
 /// A value for each number below a count. Any other number has the first value, and keeps it.
-#[derive(Drop)]
 pub(crate) struct Column<T: Copy> {
     values: Vec<T>,
     first: T,
+}
+
+impl<T: Copy> Drop for Column<T> {
+    fn drop(self) {
+        let Column { values, first: _ } = self;
+        drop(values);
+    }
 }
 
 impl<T: Copy> Column<T> {
@@ -32,9 +38,15 @@ impl<T: Copy> Column<T> {
 }
 
 /// A list for each number below a count. Any other number has the empty list, and keeps it.
-#[derive(Drop)]
 pub(crate) struct Lists<T: Copy> {
     lists: Vec<Vec<T>>,
+}
+
+impl<T: Copy> Drop for Lists<T> {
+    fn drop(self) {
+        let Lists { lists } = self;
+        drop(lists);
+    }
 }
 
 impl<T: Copy> Lists<T> {

@@ -15,13 +15,25 @@ use std::time::Duration;
 const REST_MILLISECONDS: u64 = 100;
 
 /// The listeners, which close when this is dropped, and whether the last call was a fault.
-#[derive(Drop)]
 pub struct Arrivals {
     telnet: TcpListener,
     web: Option<TcpListener>,
     // The listener whose turn it is when both have a connection.
     is_web_next: bool,
     is_failing: bool,
+}
+
+impl Drop for Arrivals {
+    fn drop(self) {
+        let Arrivals {
+            telnet,
+            web,
+            is_web_next: _,
+            is_failing: _,
+        } = self;
+        drop(telnet);
+        drop(web);
+    }
 }
 
 /// The result of a call for a connection.

@@ -133,7 +133,6 @@ struct Tie {
 }
 
 // A layout while it is made.
-#[derive(Drop)]
 struct Layout<'a> {
     alloc: Global,
     world: &'a World,
@@ -146,6 +145,25 @@ struct Layout<'a> {
     // rooms beside placed ones: by exits with a direction, and by others
     named: Vec<u32>,
     others: Vec<u32>,
+}
+
+impl Drop for Layout<'_> {
+    fn drop(self) {
+        let Layout {
+            alloc: _,
+            world: _,
+            cells,
+            taken,
+            sheet: _,
+            right: _,
+            named,
+            others,
+        } = self;
+        drop(cells);
+        drop(taken);
+        drop(named);
+        drop(others);
+    }
 }
 
 impl Layout<'_> {

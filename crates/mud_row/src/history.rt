@@ -19,10 +19,17 @@ use std::alloc::{AllocError, Global};
 use std::marker::Model;
 
 /// The entries of a history, in the cells where they were published. No entry is copied. A contract sees them in order.
-#[derive(Drop)]
 pub struct History {
     row: Row,
     pass: Pass,
+}
+
+impl Drop for History {
+    fn drop(self) {
+        let History { row, pass } = self;
+        drop(row);
+        drop(pass);
+    }
 }
 
 impl Model for History {

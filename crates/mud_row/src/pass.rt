@@ -15,10 +15,16 @@ use std::marker::Model;
 
 /// A cursor into a row: the number of cells at its beginning that are known to be set. The row that made the pass has
 /// their entries. A contract sees the names of the row's cells, and the known entries.
-#[derive(Drop)]
 pub struct Pass {
     pub(crate) notes: Vec<Note<Entry>>,
     pub(crate) count: u32,
+}
+
+impl Drop for Pass {
+    fn drop(self) {
+        let Pass { notes, count: _ } = self;
+        drop(notes);
+    }
 }
 
 impl Model for Pass {

@@ -23,11 +23,18 @@ use std::marker::Model;
 /// A world that applies the entries of a row one by one, beginning with the initial world. A contract sees the names of
 /// the row's cells, the known entries, and the number of applied entries. An entry whose change is illegal where it
 /// occurs has no effect.
-#[derive(Drop)]
 pub struct Replica {
     world: World,
     at: u32,
     pass: Pass,
+}
+
+impl Drop for Replica {
+    fn drop(self) {
+        let Replica { world, at: _, pass } = self;
+        drop(world);
+        drop(pass);
+    }
 }
 
 impl Model for Replica {

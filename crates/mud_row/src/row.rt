@@ -15,9 +15,15 @@ use std::marker::Model;
 
 /// A log of 1 to 65,536 cells. The first thread that sets a cell decides its entry, and the entry never changes. A
 /// contract sees the names of the cells, in order.
-#[derive(Drop)]
 pub struct Row {
     cells: Vec<OnceBox<Entry>>,
+}
+
+impl Drop for Row {
+    fn drop(self) {
+        let Row { cells } = self;
+        drop(cells);
+    }
 }
 
 impl Model for Row {

@@ -30,7 +30,6 @@ struct Head {
 
 /// The browsers whose head is being read, each in a chair of its own, and the number of sessions that have begun or are
 /// about to.
-#[derive(Drop)]
 pub struct Lobby {
     site: Option<Site>,
     // No other lock is taken under it.
@@ -40,6 +39,27 @@ pub struct Lobby {
     started: AtomicU32,
     begun: AtomicU32,
     is_closed: AtomicBool,
+}
+
+impl Drop for Lobby {
+    fn drop(self) {
+        let Lobby {
+            site,
+            chairs,
+            came,
+            heard,
+            started,
+            begun,
+            is_closed,
+        } = self;
+        drop(site);
+        drop(chairs);
+        drop(came);
+        drop(heard);
+        drop(started);
+        drop(begun);
+        drop(is_closed);
+    }
 }
 
 // Returns this many free chairs.

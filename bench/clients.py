@@ -29,8 +29,8 @@ OPENING = [b"connect wizard potrzebie", b"@teleport me=#0", b"@dig Other=north,s
 
 class Played(NamedTuple):
     """The result of a play: the number of answers, and the seconds. Then come the processor time of the server and of
-    the clients, the lines read, and the notices of talk among them. The last two have the 50th and 99th percentile of
-    replies and of notices, in milliseconds."""
+    the clients, the lines read, and the notices of talk among them. The next two have the 50th and 99th percentile of
+    replies and of notices, in milliseconds. The last is the share of all processors' time that the host took."""
 
     answers: float
     seconds: float
@@ -40,6 +40,7 @@ class Played(NamedTuple):
     notices: float
     replies: tuple
     told: tuple
+    lost: float
 
     @property
     def rate(self):
@@ -71,6 +72,13 @@ def processor_time(pid):
     return (int(fields[11]) + int(fields[12])) / os.sysconf("SC_CLK_TCK")
 
 
+def machine_time():
+    """Returns the processor time that the host took from this machine so far, and that of all processors, in ticks."""
+    with open("/proc/stat") as file:
+        spent = [int(word) for word in file.readline().split()[1:9]]
+    return spent[-1], sum(spent)
+
+
 def memory(pid, name="VmRSS"):
     """Returns the memory of a process, in megabytes."""
     with open(f"/proc/{pid}/status") as file:
@@ -86,12 +94,13 @@ def built_load(folder):
 
 def played(name, load, pid, port, clients, lines):
     """Lets this many clients send this many lines each."""
-    before, own_before = processor_time(pid), spent_by_children()
+    before, own_before, (lost_before, all_before) = processor_time(pid), spent_by_children(), machine_time()
     words = [load, str(port), str(clients), str(lines), name]
     said = subprocess.run(words, stdout=subprocess.PIPE, check=True, text=True).stdout
-    took, spent = processor_time(pid) - before, spent_by_children() - own_before
+    took, spent, (lost, of_all) = processor_time(pid) - before, spent_by_children() - own_before, machine_time()
+    lost = (lost - lost_before) / max(1, of_all - all_before)
     (answers, seconds, read, notices), replies, told = (map(float, line.split()) for line in said.splitlines())
-    return Played(answers, seconds, took, spent, read, notices, tuple(replies), tuple(told))
+    return Played(answers, seconds, took, spent, read, notices, tuple(replies), tuple(told), lost)
 
 
 def build_rooms(server):

@@ -28,7 +28,7 @@ const SHARE_MICROSECONDS: u64 = 16;
 // The number of rests for which a player counts as typing, and the shortest such time.
 const TYPING_RESTS: u32 = 2;
 
-const LEAST_TYPING_MICROSECONDS: u64 = 512;
+const LEAST_TYPING_MICROSECONDS: u64 = 256;
 
 // The greatest number of sessions with which a reader thread lets other threads run before it reads.
 const MOST_GIVING_WAY: u32 = 16;

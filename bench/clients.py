@@ -30,7 +30,8 @@ OPENING = [b"connect wizard potrzebie", b"@teleport me=#0", b"@dig Other=north,s
 class Played(NamedTuple):
     """The result of a play: the number of answers, and the seconds. Then come the processor time of the server and of
     the clients, the lines read, and the notices of talk among them. The next two have the 50th and 99th percentile of
-    replies and of notices, in milliseconds. The last is the share of all processors' time that the host took."""
+    replies and of notices, in milliseconds. Then comes the share of all processors' time that the host took, and the
+    number of plays before this one in which it took too much."""
 
     answers: float
     seconds: float
@@ -41,6 +42,7 @@ class Played(NamedTuple):
     replies: tuple
     told: tuple
     lost: float
+    repeats: int = 0
 
     @property
     def rate(self):

@@ -6,21 +6,14 @@
 //! Threads: the main thread runs the server of `mud_server`, beside the host's threads of `mud_host`.
 #![tactic(auto)]
 
-mod checking;
-mod scripting;
 mod serving;
-mod settings;
-mod stop;
 
-use crate::checking::check;
-use crate::scripting::answer;
 use crate::serving::listen;
-use crate::settings::{Unsettled, settled};
-use crate::stop::Stop;
 use log::{Level, Log, Logged, info};
 use mud_cli::{CommandFault, Listening, Service, service_of, show, version};
 use mud_host::{Staff, watch};
-use mud_server_volume::{Hosting, StopSign};
+use mud_server_accept::{Hosting, StopSign};
+use mud_tasks::{Stop, Unsettled, answer, check, settled};
 use std::alloc::Global;
 use std::io::{Eprint, Print};
 use std::process::ExitCode;

@@ -1,4 +1,4 @@
-//! The services of the program.
+//! Serves connections.
 
 ghost use Rattle.std.specs.Prelude.{◌≡◌, ◌≤◌, length};
 ghost use Rattle.mud_world.specs.declared.limits.TheConstants.{MOST_ENTRIES};
@@ -7,74 +7,23 @@ ghost use Rattle.mud_chron.specs.Text.{journal_text};
 ghost use Rattle.mud_cli.specs.Service.{AreWithin};
 ghost use Rattle.mud_search.specs.declared.limits.TheConstants.{MOST_WORKERS};
 
-use crate::stop::Stop;
 use log::{Log, info};
-use mud_chron::Entry;
 use mud_chron::limits::MOST_DESKS;
-use mud_cli::{Listening, WebListening};
+use mud_cli::Listening;
 use mud_history_file::entries_to_continue;
-use mud_host::bind;
 use mud_io::Sink;
 use mud_journal::NamedFiles;
-use mud_page::PAGE;
 use mud_server::{FirstVolume, Volumes, listen_volumes};
-use mud_server_volume::{Doors, Hosting, Site, WebDoor, listen_on};
+use mud_server_accept::{Doors, Hosting, Limits, listen_on};
 use mud_shelf::{FoundVolume, Shelf, find_volume, folder_of};
+use mud_tasks::{Stop, doors, load_entries, tell_torn};
 use std::fs::File;
 use std::io;
-use std::io::Eprint;
 use std::net::{Net, TcpListener, TcpStream};
 use std::rt::{Files, Runtime};
 use std::sync::Wait;
 use std::thread::Threads;
 use std::time::Clock;
-
-/// Returns the entries that a world without a journal, or with an empty one, continues.
-pub(crate) fn load_entries<R: Runtime + AllocGlobal>(
-    rt: &R,
-    file: Option<&str>,
-) -> Result<Vec<Entry>, Stop> {
-    match entries_to_continue(rt, file, Vec::new(rt.alloc())) {
-        Ok(entries) => Ok(entries),
-        Err(fault) => Err(Stop::of_load(fault)),
-    }
-}
-
-/// Prints how many bytes at the end of the journal are no whole line.
-pub(crate) fn tell_torn<R: Eprint>(rt: &R, torn: usize) {
-    let _ = match torn {
-        0 => Ok(()),
-        1 => eprintln!(rt; "mud_serve: 1 torn byte at the end of the journal is cut off"),
-        _ => eprintln!(rt; "mud_serve: {torn} torn bytes at the end of the journal are cut off"),
-    };
-}
-
-// Returns the web listener that was asked for.
-fn web_door<R: AllocGlobal + Net<Listener = TcpListener, Stream = TcpStream>>(
-    rt: &R,
-    web: WebListening<'_>,
-) -> Result<WebDoor, Stop> {
-    let Ok(origin) = String::from_str(rt.alloc(), web.origin) else {
-        return Err(Stop::OutOfMemory);
-    };
-    Ok(WebDoor {
-        listener: bind(rt, web.address, web.port)?,
-        site: Site { origin, page: PAGE },
-    })
-}
-
-/// Binds the listeners of the command line.
-pub(crate) fn doors<R: AllocGlobal + Net<Listener = TcpListener, Stream = TcpStream>>(
-    rt: &R,
-    listening: Listening<'_>,
-) -> Result<Doors, Stop> {
-    let telnet = bind(rt, listening.address, listening.port)?;
-    let web = match listening.web {
-        Some(web) => Some(web_door(rt, web)?),
-        None => None,
-    };
-    Ok(Doors { telnet, web })
-}
 
 // Logs the ports.
 fn log_doors<R: Log>(rt: &R, doors: &Doors) {
@@ -103,7 +52,7 @@ pub(crate) fn listen<
 >(rt: &R, listening: Listening<'_>, hosting: Hosting<'_>) -> Result<(), Stop>
     requires { AreWithin listening.limits }
 {
-    let limits = mud_server_volume::Limits {
+    let limits = Limits {
         // Each session has a desk of its own.
         sessions: MOST_DESKS,
         per_address: listening.per_address,
@@ -130,12 +79,7 @@ fn keep_nothing<
         + Clock
         + Sync
         + Net<Listener = TcpListener, Stream = TcpStream>,
->(
-    rt: &R,
-    listening: Listening<'_>,
-    limits: mud_server_volume::Limits,
-    hosting: Hosting<'_>,
-) -> Result<(), Stop>
+>(rt: &R, listening: Listening<'_>, limits: Limits, hosting: Hosting<'_>) -> Result<(), Stop>
     requires sessions { limits.sessions ≤ MOST_DESKS }
     requires workers { limits.workers ≤ MOST_WORKERS }
     requires from { 1 ≤ limits.capacity }
@@ -166,7 +110,7 @@ fn keep_journal<
 >(
     rt: &R,
     listening: Listening<'_>,
-    limits: mud_server_volume::Limits,
+    limits: Limits,
     hosting: Hosting<'_>,
     name: &str,
 ) -> Result<(), Stop>
@@ -202,7 +146,7 @@ fn keep_volumes<
 >(
     rt: &R,
     listening: Listening<'_>,
-    limits: mud_server_volume::Limits,
+    limits: Limits,
     hosting: Hosting<'_>,
     shelf: S,
     name: &str,

@@ -1,6 +1,6 @@
 //! A server with volumes: many sessions at a time, in one hall after another.
 //!
-//! [`listen_volumes`] serves connections like `listen_on` of `mud_server_volume`, and keeps the history in volumes:
+//! [`listen_volumes`] serves connections like `listen_on` of `mud_server_accept`, and keeps the history in volumes:
 //! before one is full, all sessions rest, and sit down in the hall of the next one. docs/SERVER.md has the steps of a
 //! turn. Between two volumes there is only the caller's thread.
 //!

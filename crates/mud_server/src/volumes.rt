@@ -28,13 +28,14 @@ use mud_hall::{LoadFault, NewHall};
 use mud_io::Sink;
 use mud_journal::{Disk, Found, Journal, JournalFault, Nameless};
 use mud_listeners::Doors;
+use mud_server_accept::serve_volume;
 use mud_server_end::{ServerFault, write_entries, write_ports};
+use mud_server_session::Came;
 use mud_server_state::Limits;
-use mud_server_threads::Came;
 use mud_server_volume::marks::retry_step;
 use mud_server_volume::{
     Beginning, Company, Ended, Proposal, Served, Terms, Turning, copies, count_objects,
-    is_well_ended, new_company, part_all, ports_of, resume_hall, serve_volume, tell_large,
+    is_well_ended, new_company, part_all, ports_of, resume_hall, tell_large,
 };
 use mud_shelf::{Shelf, Volume};
 use std::alloc::Global;
@@ -478,7 +479,7 @@ pub enum LastJournal<F, L> {
     Later(L),
 }
 
-/// Serves like `listen_on` of `mud_server_volume`, and keeps the history in volumes on a disk while it runs. The first
+/// Serves like `listen_on` of `mud_server_accept`, and keeps the history in volumes on a disk while it runs. The first
 /// volume is rewritten with all loaded entries before the ports are named. By its type, a text that names a version
 /// waits for its sync.
 ///

@@ -20,4 +20,4 @@ pub use commits::Commits;
 pub use limits::Limits;
 pub use lobby::Lobby;
 pub use place::NoPlace;
-pub use state::{Places, Reads, ServerState, Shared, Shares};
+pub use state::{Places, Reads, ServerState, Shared, Shares, StateOf};

@@ -65,7 +65,7 @@ pub struct Shared {
 
 /// The state that all threads of a server share.
 ///
-/// `StateOf` of `mud_server_threads` has its types. The hall, the places and the gate are type parameters, because the
+/// [`StateOf`] has its types. The hall, the places and the gate are type parameters, because the
 /// prover finds that threads may share the state only by a lemma about its parts.
 #[derive(Drop)]
 pub struct ServerState<H, P, G> {
@@ -76,6 +76,9 @@ pub struct ServerState<H, P, G> {
     // Held while a desk is chosen; the locks of places come after it.
     choosing: Mutex<()>,
 }
+
+/// The state of the hall that `J` names, whose changes `G` makes durable.
+pub type StateOf<J, G> = ServerState<Hall<J>, Places<J>, G>;
 
 /// A server's state as its threads use it, without the types of its hall. A proof spells out all types that its values
 /// reach, so the proofs of functions over this trait cost a fraction (docs/DECISIONS.md, "The cost of a proof").

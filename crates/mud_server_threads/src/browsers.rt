@@ -1,9 +1,10 @@
 //! Browsers: a thread of its own reads each browser's head, and continues as the reader thread of a session if the
 //! browser plays.
 
-use crate::connection::{Converses, leave};
+use crate::ending::leave;
 use crate::server::{Begun, Server};
 use log::Log;
+use mud_server_session::Converses;
 use mud_server_state::NoPlace;
 use mud_socket::{Entrance, HeadReader, Heard, Socket, hear, refuse, set_up};
 use mud_web::Channel;

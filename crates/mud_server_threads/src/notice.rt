@@ -1,9 +1,8 @@
 //! Runs the notice thread of a session.
 
-use crate::connection::{
-    CLOSE_MILLISECONDS, CLOSE_TRIES, Converses, ending_of, is_ending, tell_ending,
-};
+use crate::ending::{is_ending, tell_ending};
 use crossbeam_utils::sync::Parker;
+use mud_server_session::{CLOSE_MILLISECONDS, CLOSE_TRIES, Converses, ending_of};
 use mud_socket::{Ending, Parting, now, rest};
 use std::sync::Wait;
 use std::time::{Clock, Duration};

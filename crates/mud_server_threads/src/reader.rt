@@ -1,12 +1,13 @@
 //! Runs the reader thread of a session.
 
-use crate::connection::{Converses, Follows, Stepped, ending_of, leave};
-use crate::habits::Habits;
-use crate::log_lines::{log_begin, log_end, log_end_of, log_player, log_refusal, log_wait};
-use crate::quay::{Guest, Quay};
+use crate::ending::leave;
 use crate::server::Server;
 use log::Log;
 use mud_control::{Pace, Refusal};
+use mud_server_session::{
+    Converses, Follows, Guest, Habits, Quay, Stepped, ending_of, log_begin, log_end, log_end_of,
+    log_player, log_refusal, log_wait,
+};
 use mud_socket::{Entrance, Parting, Patience, give_way, now, rest, unix_seconds};
 use mud_web::{FirstLine, Verdict};
 use std::alloc::Global;

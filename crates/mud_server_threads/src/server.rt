@@ -1,15 +1,13 @@
 //! Starts threads and sessions.
 
-use crate::connection::{Converses, leave};
-use crate::habits::Habits;
-use crate::log_lines::{log_end, log_number, log_refusal};
+use crate::ending::leave;
 use crate::notice::{Sleeper, tell_all};
-use crate::quay::{Guest, Quay};
 use crate::reader::{read_all, read_on};
 use crossbeam_utils::sync::{Parker, Unparker};
 use log::Log;
 use mud_client::RestingClient;
 use mud_control::{Member, Refusal};
+use mud_server_session::{Converses, Guest, Habits, Quay, log_end, log_number, log_refusal};
 use mud_server_state::NoPlace;
 use mud_socket::{Parting, Socket, now, unix_seconds};
 use std::alloc::Global;

@@ -1,8 +1,9 @@
 //! Telnet connections: each gets a session at once, or is refused.
 
-use crate::connection::{Converses, leave};
+use crate::ending::leave;
 use crate::server::{Begun, Server};
 use log::Log;
+use mud_server_session::Converses;
 use mud_server_state::NoPlace;
 use mud_socket::{Entrance, Socket, set_up};
 use std::io::Write;

@@ -1,2 +1,2 @@
-mod Crosses
+pub mod Crosses
 mod Deciding

@@ -36,7 +36,7 @@ pub fn count_objects(tally: &Tally, entries: &[Entry]) {
 }
 
 /// Counts the objects of entries that were not counted yet. If an allocation fails, some are not counted.
-pub(crate) fn count_new<S: Reads<K>, K>(alloc: Global, state: &S, reader: &mut K) {
+pub fn count_new<S: Reads<K>, K>(alloc: Global, state: &S, reader: &mut K) {
     if let Some(entries) = state.read(alloc, reader, MOST_READ) {
         count_objects(&state.control().tally, &entries);
     }

@@ -1,45 +1,29 @@
-//! One volume of a server: many sessions at a time, over connections, in one hall.
+//! Both ends of a volume, and when a server turns to the next one.
 //!
-//! [`listen_on`] serves Telnet connections and browsers, each with a session of its own at a desk of one hall. At the
-//! end it closes the hall and writes its history. For a server with volumes, [`serve_volume`] serves one of them with
-//! a journal on a disk, and ends early if it is time to turn to the next. docs/SERVER.md has the threads, their locks,
-//! which thread wakes which, and how all of them end.
+//! A volume begins with the hall that continues its entries ([`resume_hall`]), with its journal, and with the sessions
+//! that come from the volume before it ([`Company`], [`Beginning`]). `mud_server_accept` serves it. Once its threads
+//! have ended, [`settle_volume`] closes the hall, and returns its history and its journal. [`Turning`] says when it is
+//! time to turn to the next one, and searches for a shorter history. docs/SERVER.md has the steps of a turn.
 //!
-//! Threads: the caller's thread accepts connections, and owns the listeners and the shared state. It starts the threads
-//! of `mud_server_threads`, which write the journal, and the search for a shorter history. All of them end before the
-//! volume does, and none outlives the shared state.
-//!
-//! ```
-//! let doors = Doors { telnet: TcpListener::bind(&rt, ("127.0.0.1", 4000))?, web: None };
-//! let limits = Limits {
-//!     sessions: 64, per_address: 0, total: 2, counts_players: false, workers: 0, capacity: 1000, idle: 0, unnamed: 0,
-//! };
-//! let control = Control::alone(rt.alloc(), 64)?;
-//! let hosting = Hosting { stop: None, control: &control };
-//! let mut sink = Sink::new(io::writer(&rt));
-//! listen_on(&rt, doors, limits, Vec::new(rt.alloc()), hosting, &mut sink)?;
-//! ```
-//!
-//! Proved: the output. With Ok it is the lines that name the ports, and the text of a history. That history can be
-//! loaded again, begins with the loaded entries, and has no more desks after them than simultaneous sessions. After a
-//! fault the output is a prefix of such a text. No contract states that the history is that of the sessions, that any
-//! session is served, that a change wakes a thread, or that a desk is returned; tests show it.
+//! Proved: the history of a volume that ends well begins as it was loaded, can be loaded again, and is in its journal.
+//! When a server searches and when it turns is a function of its fill and its search ([`marks`]). No contract states
+//! that the search finds anything; tests show it.
 #![tactic(auto)]
 
 mod census;
+mod course;
 pub mod laws;
-mod listen;
 pub mod marks;
+mod opening;
 mod proposal;
 mod turning;
 mod volume;
 
-pub use census::count_objects;
-pub use listen::{Served, is_well_ended, listen_on, ports_of, resume_hall, try_entries};
-pub use mud_control::{Control, Hosting, Rates, StopSign};
-pub use mud_listeners::{Doors, Site, WebDoor};
-pub use mud_server_end::ServerFault;
-pub use mud_server_state::Limits;
+pub use census::{count_new, count_objects};
+pub use course::{Comers, Course, Served, is_well_ended};
+pub use opening::{ports_of, resume_hall, try_entries};
 pub use proposal::{Proposal, copies};
 pub use turning::{Turning, tell_large};
-pub use volume::{Beginning, Company, Ended, Terms, new_company, part_all, serve_volume};
+pub use volume::{
+    Beginning, Company, Ended, Left, Terms, new_company, part_all, settle_volume, state_of,
+};

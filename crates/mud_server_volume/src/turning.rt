@@ -7,11 +7,8 @@ use mud_chron::Entry;
 use mud_compact::shorten;
 use mud_control::Tally;
 use mud_server_state::{Reads, Shares};
-use mud_server_threads::{Converses, Server};
 use std::alloc::{AllocError, Global};
 use std::sync::{Mutex, Wait};
-use std::thread::Threads;
-use std::time::Clock;
 
 /// The result of a search.
 #[derive(Drop)]
@@ -101,7 +98,7 @@ impl Turning {
     }
 
     /// Returns what the search proposes.
-    pub(crate) fn into_proposal(self) -> Option<Proposal> {
+    pub fn into_proposal(self) -> Option<Proposal> {
         match self.plan?.into_inner().searched {
             Searched::Found(found) => Some(found),
             _ => None,
@@ -109,7 +106,7 @@ impl Turning {
     }
 
     /// Tells the sessions from when on their lines wait for the turn.
-    pub(crate) fn begin<S: Shares, R: Wait>(&self, rt: &R, state: &S) {
+    pub fn begin<S: Shares, R: Wait>(&self, rt: &R, state: &S) {
         if let Some(plan) = &self.plan {
             let shared = state.shared();
             let from = plan.lock(rt).held_from(shared.limits.capacity as usize);
@@ -117,20 +114,15 @@ impl Turning {
         }
     }
 
-    /// Starts the search if it is time for it. Returns whether the server should turn now.
-    pub(crate) fn is_due<'s, E, S, C, K, R>(&'s self, server: &Server<'s, E, S, C, R>) -> bool
-    where
-        S: Converses<C> + Reads<K> + Sync + 's,
-        C: Drop + Send + Sync + 's,
-        K: Drop + Send + 's,
-        R: Threads + Wait + Log + Clock + Sync + 's,
-    {
+    /// Returns the next step about the turn. If that is to search, the caller begins [`Turning::search`] in a thread of
+    /// its own, or gives it up. A history that the search found is dropped here if it is too long.
+    pub fn next_step<S: Shares, R: Wait + Log>(&self, rt: &R, state: &S) -> Step {
         let Some(plan) = &self.plan else {
-            return false;
+            return Step::Wait;
         };
-        let shared = server.state.shared();
+        let shared = state.shared();
         let control = shared.control();
-        let mut plan = plan.lock(server.rt);
+        let mut plan = plan.lock(rt);
         plan.is_requested = control.take_request() || plan.is_requested;
         let fill = Fill {
             capacity: shared.limits.capacity as usize,
@@ -138,64 +130,31 @@ impl Turning {
             least: plan.least,
             is_requested: plan.is_requested,
         };
-        match fill.step(plan.progress(fill.changes), plan.is_large) {
-            Step::Turn => return true,
-            Step::Wait => {}
-            Step::Search => {
-                plan.searched = Searched::Runs;
-                drop(plan);
-                self.begin_search::<E, S, C, K, R>(server);
-            }
+        let step = fill.step(plan.progress(fill.changes), plan.is_large);
+        match step {
+            Step::Turn | Step::Wait => {}
+            Step::Search => plan.searched = Searched::Runs,
             Step::Drop => {
                 let taken = plan.drop_found(fill.capacity);
                 shared.hold_from(plan.held_from(fill.capacity));
                 drop(plan);
                 let (tally, most) = (&control.tally, fill.capacity);
-                tell_large(
-                    server.rt,
-                    tally,
-                    self.volume,
-                    taken,
-                    most,
-                    fill.is_requested,
-                );
+                tell_large(rt, tally, self.volume, taken, most, fill.is_requested);
             }
         }
-        false
-    }
-
-    // Starts the thread that searches for a proposal.
-    fn begin_search<'s, E, S, C, K, R>(&'s self, server: &Server<'s, E, S, C, R>)
-    where
-        S: Converses<C> + Reads<K> + Sync + 's,
-        C: Drop + Send + Sync + 's,
-        K: Drop + Send + 's,
-        R: Threads + Wait + Log + Clock + Sync + 's,
-    {
-        let other = server.again();
-        let searching = server
-            .scope
-            .spawn(move || self.search::<E, S, C, K, R>(&other));
-        if searching.is_err() {
-            self.end_search(server, None);
-        }
+        step
     }
 
     // Records what the search found. If it found nothing, because memory or a thread lacks, it is tried again later.
-    fn end_search<'s, E, S, C, R>(&self, server: &Server<'s, E, S, C, R>, found: Option<Proposal>)
-    where
-        S: Converses<C> + Sync + 's,
-        C: Drop + Send + Sync + 's,
-        R: Threads + Wait + Log + Clock + Sync + 's,
-    {
+    fn end_search<S: Shares, R: Wait>(&self, rt: &R, state: &S, found: Option<Proposal>) {
         let Some(plan) = &self.plan else {
             return;
         };
-        let mut plan = plan.lock(server.rt);
+        let mut plan = plan.lock(rt);
         match found {
             Some(found) => plan.searched = Searched::Found(found),
             None => {
-                let shared = server.state.shared();
+                let shared = state.shared();
                 let changes = shared.control().tally.changes() as usize;
                 let capacity = shared.limits.capacity as usize;
                 plan.searched = Searched::Idle;
@@ -206,19 +165,18 @@ impl Turning {
         }
     }
 
-    // Searches for a shorter history of the present world.
-    fn search<'s, E, S, C, K, R>(&self, server: &Server<'s, E, S, C, R>)
-    where
-        S: Converses<C> + Reads<K> + Sync + 's,
-        C: Drop + Send + Sync + 's,
-        K: Drop + Send + 's,
-        R: Threads + Wait + Log + Clock + Sync + 's,
-    {
-        let found = match self.read::<S, K, R>(server.rt, server.alloc, server.state) {
-            Some(entries) => propose(server.alloc, &entries),
+    /// Records that no thread for the search could be started.
+    pub fn give_up<S: Shares, R: Wait>(&self, rt: &R, state: &S) {
+        self.end_search(rt, state, None);
+    }
+
+    /// Searches for a shorter history of the present world, and records what it found.
+    pub fn search<S: Reads<K>, K: Drop, R: Wait>(&self, rt: &R, alloc: Global, state: &S) {
+        let found = match self.read::<S, K, R>(rt, alloc, state) {
+            Some(entries) => propose(alloc, &entries),
             None => None,
         };
-        self.end_search(server, found);
+        self.end_search(rt, state, found);
     }
 
     // Returns the present history, or `None` if an allocation fails.

@@ -1,12 +1,12 @@
-//! Serves one volume: a hall, its journal, and the sessions that come from the volume before it.
+//! Both ends of a volume: its hall, its journal, and the sessions that come from it and go on to the next one.
 
-ghost use Rattle.std.specs.Prelude.{◌≡◌, ◌≤◌, ◌<◌, length, IfOk, IfErr, IfNone, false};
+ghost use Rattle.std.specs.Prelude.{◌≡◌, ◌≤◌, length, IfOk, IfErr, false};
 ghost use Rattle.mud_world.specs.declared.limits.TheConstants.{MOST_ENTRIES};
 ghost use Rattle.mud_search.specs.declared.limits.TheConstants.{MOST_WORKERS};
 ghost use Rattle.mud_journal.specs.Disk.{Holds};
 ghost use Rattle.mud_server_end.specs.Server.{MayEnd, IsInnerFault};
 
-use crate::listen::{Comers, Course, Served, serve_sessions};
+use crate::course::{Comers, Served};
 use crate::proposal::Proposal;
 use crate::turning::Turning;
 use log::Log;
@@ -15,15 +15,12 @@ use mud_hall::{Hall, HallName, NewHall};
 use mud_journal::{Disk, Journal, Nameless};
 use mud_listeners::{Arrivals, Doors};
 use mud_row::History;
-use mud_server_end::{GroupCommit, JournalWriter, ServerFault, settle_group};
-use mud_server_state::{Commits, Limits, Lobby, ServerState};
-use mud_server_threads::{Came, Guest, Quay, StateOf};
+use mud_server_end::{GroupCommit, ServerFault, settle_group};
+use mud_server_session::{Came, Guest};
+use mud_server_state::{Commits, Limits, Lobby, ServerState, StateOf};
 use mud_socket::Ending;
 use std::alloc::Global;
-use std::marker::Brand;
 use std::sync::{Arc, Wait};
-use std::thread::Threads;
-use std::time::Clock;
 
 /// The terms of all volumes of a server: the limits, and the means of its host.
 #[derive(Clone, Copy)]
@@ -80,8 +77,8 @@ impl<D: Disk + Drop> Ended<D> {
     }
 }
 
-// Returns the state of a volume, and its players.
-fn state_of<J: HallName, G: Commits<J>, R: Wait + Log>(
+/// Returns the state of a volume, and its players.
+pub fn state_of<J: HallName, G: Commits<J>, R: Wait + Log>(
     rt: &R,
     alloc: Global,
     hall: Hall<J>,
@@ -107,14 +104,14 @@ fn state_of<J: HallName, G: Commits<J>, R: Wait + Log>(
     Ok((state, Comers { guests, arrivals }))
 }
 
-// The values that the threads of a volume left: the listeners, unless they were closed, the reason why no further
-// connection was accepted, the sessions that rest, and a proposal.
+/// The values that the threads of a volume left: the listeners, unless they were closed, the reason why no further
+/// connection was accepted, the sessions that rest, and a proposal.
 #[derive(Drop)]
-struct Left {
-    arrivals: Option<Arrivals>,
-    served: Served,
-    guests: Vec<Guest>,
-    proposal: Option<Proposal>,
+pub struct Left {
+    pub arrivals: Option<Arrivals>,
+    pub served: Served,
+    pub guests: Vec<Guest>,
+    pub proposal: Option<Proposal>,
 }
 
 /// Ends the sessions that rest, because the journal has failed.
@@ -124,8 +121,8 @@ pub fn part_all<R: Wait + Log>(rt: &R, guests: Vec<Guest>) {
     }
 }
 
-// Settles a volume whose threads have ended. If its journal fails, the sessions that rest are told so, and end.
-fn settle_one<J: HallName, D: Disk + Drop, R: Wait + Log>(
+/// Settles a volume whose threads have ended. If its journal fails, the sessions that rest are told so, and end.
+pub fn settle_volume<J: HallName, D: Disk + Drop, R: Wait + Log>(
     rt: &R,
     alloc: Global,
     limits: Limits,
@@ -171,84 +168,6 @@ fn settle_one<J: HallName, D: Disk + Drop, R: Wait + Log>(
         proposal,
         served,
     })
-}
-
-// Serves one volume in the hall, which J names, and settles it. The journal has the initial entries of the hall.
-fn serve_one<
-    J: HallName + Send + Sync,
-    D: Disk + Drop + Send,
-    R: Threads + Wait + Log + Clock + Sync,
->(
-    rt: &R,
-    alloc: Global,
-    company: Company,
-    beginning: Beginning<D>,
-    terms: Terms<'_>,
-) -> Result<Ended<D>, ServerFault>
-    requires cells { beginning.hall.cells ≡ J.cells }
-    requires loaded { beginning.hall.loaded ≡ J.loaded }
-    requires workers { terms.limits.workers ≤ MOST_WORKERS }
-    requires capacity { terms.limits.capacity ≤ MOST_ENTRIES }
-    requires holds { Holds (D.kept beginning.journal.disk) J.loaded }
-    requires count { beginning.journal.count ≡ length J.loaded }
-    requires going { beginning.journal.has_failed ≡ false }
-    ensures ends { IfOk result (λ e. MayEnd terms.entry.limits J.loaded e.history) }
-    ensures journaled { IfOk result (λ e. Holds (D.kept e.journal.disk) e.history) }
-    ensures count { IfOk result (λ e. e.journal.count ≡ length e.history) }
-    ensures going { IfOk result (λ e. e.journal.has_failed ≡ false) }
-    ensures fault { IfErr result IsInnerFault }
-{
-    let limits = terms.limits;
-    let Beginning {
-        hall,
-        journal,
-        volume,
-        came,
-        turning,
-    } = beginning;
-    let hall = hall.with_name::<J>();
-    let reader = hall.reader(rt)?;
-    let writer = JournalWriter::new(alloc, journal, reader);
-    let gate = GroupCommit::new(writer);
-    let (state, comers) = state_of(rt, alloc, hall, gate, company, terms, volume)?;
-    let quay = Quay::new(alloc, volume, came, limits.sessions)?;
-    let course = Course {
-        quay: &quay,
-        turning: &turning,
-        limits,
-        stop: terms.stop,
-    };
-    let (arrivals, served) = serve_sessions(rt, alloc, &state, course, comers);
-    let left = Left {
-        arrivals,
-        served,
-        guests: quay.into_guests(),
-        proposal: turning.into_proposal(),
-    };
-    settle_one(rt, alloc, limits, state, left)
-}
-
-/// Serves one volume in a hall that has no name yet: this call picks the name. So a loop may call it, and each volume
-/// is a hall of its own.
-pub fn serve_volume<D: Disk + Drop + Send, R: Threads + Wait + Log + Clock + Sync>(
-    rt: &R,
-    alloc: Global,
-    company: Company,
-    beginning: Beginning<D>,
-    terms: Terms<'_>,
-) -> Result<Ended<D>, ServerFault>
-    requires workers { terms.limits.workers ≤ MOST_WORKERS }
-    requires capacity { terms.limits.capacity ≤ MOST_ENTRIES }
-    requires holds { Holds (D.kept beginning.journal.disk) beginning.hall.loaded }
-    requires count { beginning.journal.count ≡ length beginning.hall.loaded }
-    requires going { beginning.journal.has_failed ≡ false }
-    ensures ends { IfOk result (λ e. MayEnd terms.entry.limits beginning.hall.loaded e.history) }
-    ensures journaled { IfOk result (λ e. Holds (D.kept e.journal.disk) e.history) }
-    ensures count { IfOk result (λ e. e.journal.count ≡ length e.history) }
-    ensures going { IfOk result (λ e. e.journal.has_failed ≡ false) }
-    ensures fault { IfErr result IsInnerFault }
-{
-    serve_one::<Brand, D, R>(rt, alloc, company, beginning, terms)
 }
 
 /// Returns the values that come to the first volume: the listeners, and an empty lobby.

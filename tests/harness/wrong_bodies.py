@@ -20,6 +20,8 @@ from harness.prover import check_functions, crates, run
 
 FOLDER = f"{TOP}/tests/wrong-bodies"
 IN_GATE, ON_DEMAND = "in the gate", "on demand"
+# The crate of the theorems about many sessions.
+THEOREMS = "mud_theorems"
 # Words of clauses, and of items that are no functions: proofs of other functions may rest on them.
 SHARED = re.compile(r"\b(?:ghost|requires|ensures|const|static|struct|enum|trait|impl)\b")
 # The output of a running `rt ci`, if the wrong bodies are tried beside it: how it names a crate that is proved, and its
@@ -110,20 +112,25 @@ def promises(crate):
     return "ensures" in code_of(crate)
 
 
-def is_tried(crate):
-    """Returns whether the gate plants a wrong body of the crate. The crate of the tests needs none, since no crate
-    calls it."""
-    return crate == "mud_tests" or crate in {edit.crate() for edit in in_gate()}
-
-
 def in_gate():
     return [edit for edit in edits() if edit.tried == IN_GATE]
 
 
-@part("plantable", "each wrong body can be planted, and each crate that promises something has one in the gate")
+def why_untried(crate):
+    """Returns what the wrong bodies of a crate lack, or an empty text. A crate that promises something has one. If the
+    theorems rest on it, the gate plants one. The crate of the tests needs none, since no crate calls it."""
+    if crate == "mud_tests" or not promises(crate):
+        return ""
+    if crate in {THEOREMS, *crates().below(THEOREMS)}:
+        return "" if crate in {edit.crate() for edit in in_gate()} else "the gate plants no wrong body of it"
+    return "" if crate in {edit.crate() for edit in edits()} else "it has no wrong body"
+
+
+@part("plantable", "each wrong body can be planted, and each crate that promises something has one")
 def plantable(count):
     for crate in sorted(os.listdir(f"{TOP}/crates")):
-        count(f"plantable: {crate}", is_tried(crate) or not promises(crate), "the gate plants no wrong body of it")
+        why = why_untried(crate)
+        count(f"plantable: {crate}", not why, why)
     for edit in edits():
         faults = faults_of(edit)
         count(f"plantable: {edit.name()}", not faults, "; ".join(faults))
